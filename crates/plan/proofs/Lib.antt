@@ -1,2 +1,3 @@
-pub mod Every
 pub mod Climbs
+pub mod Every
+pub mod Facts

@@ -3,7 +3,8 @@
 
 ghost use Prim.Native.Nat.{_<_, _≤_};
 ghost use mathlib.Core.Path.{_≡_};
-ghost use lib.Dec.{leb, ltb};
+ghost use lib.Dec.{ltb};
+ghost use lib.ListN.{length};
 ghost use Rattle.plan.specs.Trees.{
     counter-home, counters, element-at, element-home, has-element, has-rank, homes, level-of, level-threshold,
     node-home, own-counter, own-counter-home, own-element, own-level, parent-of, queue-home, threshold, tree-of,
@@ -33,7 +34,24 @@ impl Plan {
     pub fn shape(&self) -> Shape
         ensures { λ r. ⌜ r ≡ tree-of (now (self .entry)) .shape ⌝ }
     {
-        self.shape
+        let Plan { shape, .. } = self;
+        *shape
+    }
+
+    /// The parents of elements 2, 3, ..
+    pub fn parents(&self) -> &[u16]
+        ensures value { λ r. ⌜ now r ≡ tree-of (now (self .entry)) .parents ⌝ }
+        ensures few { λ r. ⌜ length (now r) < 256 ⌝ }
+    {
+        self.parents.as_slice()
+    }
+
+    /// The elements of ranks 1, 2, ..
+    pub fn rank_elements(&self) -> &[u16]
+        ensures value { λ r. ⌜ now r ≡ tree-of (now (self .entry)) .seats ⌝ }
+        ensures few { λ r. ⌜ length (now r) < 1025 ⌝ }
+    {
+        self.rank_elements.as_slice()
     }
 
     /// Whether the plan has a rank of this number.
@@ -57,7 +75,7 @@ impl Plan {
         if element <= 1 {
             0
         } else {
-            at_or_zero(self.parents.as_slice(), element as usize - 2)
+            at_or_zero(self.parents(), element as usize - 2)
         }
     }
 
@@ -67,7 +85,7 @@ impl Plan {
         ensures bound { λ r. ⌜ r ≤ 5 ⌝ }
     {
         if self.has_element(element) {
-            level_in_tree(self.parents.as_slice(), element as usize)
+            level_in_tree(self.parents(), element as usize)
         } else {
             0
         }
@@ -98,7 +116,7 @@ impl Plan {
     pub fn own_element(&self, rank: u16) -> u16
         ensures { λ r. ⌜ r ≡ own-element (tree-of (now (self .entry))) rank ⌝ }
     {
-        at_or_zero(self.rank_elements.as_slice(), rank.saturating_sub(1) as usize)
+        at_or_zero(self.rank_elements(), rank.saturating_sub(1) as usize)
     }
 
     /// The level of that element, or 0 for a number that is no rank.
@@ -107,7 +125,7 @@ impl Plan {
         ensures bound { λ r. ⌜ r ≤ 5 ⌝ }
     {
         if self.has_rank(rank) {
-            level_in_tree(self.parents.as_slice(), self.own_element(rank) as usize)
+            level_in_tree(self.parents(), self.own_element(rank) as usize)
         } else {
             0
         }
@@ -118,7 +136,7 @@ impl Plan {
         ensures { λ r. ⌜ r ≡ element-at (tree-of (now (self .entry))) rank level ⌝ }
     {
         climb(
-            self.parents.as_slice(),
+            self.parents(),
             self.own_level(rank).saturating_sub(level),
             self.own_element(rank) as usize,
         ) as u16

@@ -1,0 +1,5 @@
+pub mod Overlays
+pub mod RoundTrip
+pub mod Runs
+pub mod Whole
+pub mod Written

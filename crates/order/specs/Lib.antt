@@ -1,0 +1,4 @@
+pub mod Bytes
+pub mod Commands
+pub mod Reading
+pub mod Writing

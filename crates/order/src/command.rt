@@ -1,0 +1,35 @@
+//! One command of an order: its letter as a char, its length, and whether it is the one that is due.
+
+ghost use mathlib.Core.Path.{_≡_};
+ghost use Rattle.order.specs.Commands.{checked, size};
+use crate::bytes::byte_at;
+use crate::fault::Fault;
+use refusal::Refusal;
+
+// How many bytes a command has, its letter among them; an unknown letter is not looked behind.
+fn length_of(letter: char) -> usize
+    ensures { λ r. ⌜ r ≡ size letter ⌝ }
+{
+    match letter {
+        'H' => 20,
+        'E' | 'K' | 'W' | 'R' | 'S' | 'L' => 3,
+        _ => 1,
+    }
+}
+
+/// Whether the command at a place is the one that is due: a cut command is refused first, then a misplaced one.
+pub fn check_command(order: &[u8], at: usize, due: char) -> Result<(), Fault>
+    ensures { λ r. ⌜ r ≡ checked (now (order .entry)) at due ⌝ }
+{
+    if at >= order.len() {
+        return Err(Fault { refusal: Refusal::Cut, offset: at });
+    }
+    let letter = byte_at(order, at) as char;
+    if order.len() - at < length_of(letter) {
+        return Err(Fault { refusal: Refusal::Cut, offset: at });
+    }
+    if letter != due {
+        return Err(Fault { refusal: Refusal::Misplaced, offset: at });
+    }
+    Ok(())
+}
