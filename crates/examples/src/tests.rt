@@ -1,0 +1,4 @@
+//! Tests that run tables against the code.
+
+mod cases;
+mod faults;
