@@ -16,17 +16,17 @@ use Rattle.examples.specs.declared.cases.Case.the-variants.{CounterHome, Node,
 
 -- plan A with p ranks, q for the parent of element 2, and l for the threshold of level 2
 abbrev pub changed-shape : ℕ → ℕ → Shape
-changed-shape p l = record
-  { ranks = p
-  ; elements = 3
-  ; levels = 2
-  ; spacing = 2
-  ; «reader_threshold» = 2
-  ; «writer_threshold» = 2
-  ; «level2_threshold» = l
-  ; «level3_threshold» = 0
-  ; «level4_threshold» = 0
-  }
+changed-shape p l = record {
+  ranks = p;
+  elements = 3;
+  levels = 2;
+  spacing = 2;
+  «reader_threshold» = 2;
+  «writer_threshold» = 2;
+  «level2_threshold» = l;
+  «level3_threshold» = 0;
+  «level4_threshold» = 0;
+}
 
 abbrev pub changed : ℕ → ℕ → ℕ → Tree
 changed p q l = tree (changed-shape p l) (q ∷ 1 ∷ []) ((2 ∷ 2 ∷ 2 ∷ []) ++ replicate (p - 3) 3)

@@ -8,18 +8,18 @@ ghost use Rattle.examples.specs.Cases.{all-hold, cases};
 /// One case: a question about plan A, or a change of it, and the answer.
 #[derive(Clone, Copy)]
 pub enum Case {
-    /// The home of a rank's counter.
-    CounterHome { rank: u16, home: u64 },
-    /// The home of a rank's node at a level.
-    Node { rank: u16, level: u8, home: u64 },
-    /// The home of the queue that a rank joins at a level.
-    Queue { rank: u16, level: u8, home: u64 },
-    /// This many ranks, those from the fourth on on element 3: the refusal's number, or 0 if accepted.
-    Ranks { count: u16, refused: u8 },
-    /// Another threshold of level 2.
-    Level2Threshold { threshold: u16, refused: u8 },
-    /// Another parent of element 2.
-    Parent { parent: u16, refused: u8 },
+    /// A rank, and the home of its counter.
+    CounterHome(u16, u64),
+    /// A rank, a level, and the home of the rank's node there.
+    Node(u16, u8, u64),
+    /// A rank, a level, and the home of the queue that the rank joins there.
+    Queue(u16, u8, u64),
+    /// So many ranks, those from the fourth on on element 3, and the refusal's number, or 0 if accepted.
+    Ranks(u16, u8),
+    /// Another threshold of level 2, and the refusal's number.
+    Level2Threshold(u16, u8),
+    /// Another parent of element 2, and the refusal's number.
+    Parent(u16, u8),
 }
 
 /// The table. Each case holds of the definitions.
@@ -28,20 +28,20 @@ pub fn table() -> [Case; 15]
     ensures holds { λ _. ⌜ all-hold cases ≡ true ⌝ }
 {
     [
-        Case::CounterHome { rank: 1, home: 1 },
-        Case::CounterHome { rank: 2, home: 1 },
-        Case::CounterHome { rank: 3, home: 3 },
-        Case::CounterHome { rank: 4, home: 3 },
-        Case::CounterHome { rank: 5, home: 5 },
-        Case::Node { rank: 4, level: 2, home: 4 },
-        Case::Node { rank: 4, level: 1, home: 8 },
-        Case::Queue { rank: 4, level: 2, home: 8 },
-        Case::Queue { rank: 4, level: 1, home: 6 },
-        Case::Ranks { count: 5, refused: 0 },
-        Case::Ranks { count: 1024, refused: 0 },
-        Case::Ranks { count: 1025, refused: 1 },
-        Case::Level2Threshold { threshold: 0, refused: 2 },
-        Case::Parent { parent: 1, refused: 0 },
-        Case::Parent { parent: 2, refused: 3 },
+        Case::CounterHome(1, 1),
+        Case::CounterHome(2, 1),
+        Case::CounterHome(3, 3),
+        Case::CounterHome(4, 3),
+        Case::CounterHome(5, 5),
+        Case::Node(4, 2, 4),
+        Case::Node(4, 1, 8),
+        Case::Queue(4, 2, 8),
+        Case::Queue(4, 1, 6),
+        Case::Ranks(5, 0),
+        Case::Ranks(1024, 0),
+        Case::Ranks(1025, 1),
+        Case::Level2Threshold(0, 2),
+        Case::Parent(1, 0),
+        Case::Parent(2, 3),
     ]
 }

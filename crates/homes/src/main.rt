@@ -10,7 +10,9 @@ fn main(rt: LibcRuntime) -> Result<(), AnyError> {
     let heap = rt.alloc();
     let mut order = Vec::new(heap);
     // one byte past the limit is enough to see that an order is too long
-    rt.stdin().take(LONGEST_ORDER as u64 + 1).read_to_end(&mut order)?;
+    rt.stdin()
+        .take(LONGEST_ORDER as u64 + 1)
+        .read_to_end(&mut order)?;
     let text = report(heap, order.as_slice())?;
     rt.print(text)?;
     Ok(())

@@ -24,7 +24,10 @@ pub fn plan_line(heap: Global, plan: &Plan) -> Result<String, AllocError>
     let levels = shape.levels;
     let counters = plan.counters();
     let homes = plan.homes();
-    format!(heap, "plan ranks {ranks} elements {elements} levels {levels} counters {counters} homes {homes}\n")
+    format!(
+        heap,
+        "plan ranks {ranks} elements {elements} levels {levels} counters {counters} homes {homes}\n"
+    )
 }
 
 /// The line of an element.
@@ -34,7 +37,10 @@ pub fn element_line(heap: Global, plan: &Plan, element: u16) -> Result<String, A
     let level = plan.level(element);
     let home = plan.element_home(element);
     let parent = plan.parent(element);
-    format!(heap, "element {element} level {level} home {home} parent {parent}\n")
+    format!(
+        heap,
+        "element {element} level {level} home {home} parent {parent}\n"
+    )
 }
 
 /// The line of a counter.
@@ -54,7 +60,10 @@ pub fn rank_line(heap: Global, plan: &Plan, rank: u16) -> Result<String, AllocEr
     let own = plan.own_level(rank) as u16;
     let nodes = all_texts(heap, &Nodes { plan, rank }, 0, own)?;
     let queues = all_texts(heap, &Queues { plan, rank }, 0, own)?;
-    format!(heap, "rank {rank} element {element} counter {counter} nodes{nodes} queues{queues}\n")
+    format!(
+        heap,
+        "rank {rank} element {element} counter {counter} nodes{nodes} queues{queues}\n"
+    )
 }
 
 /// The line of a bad order.

@@ -18,7 +18,12 @@ pub trait Numbered {
 }
 
 // The texts of `count` numbers from `first` on.
-pub(crate) fn all_texts<T: Numbered>(heap: Global, source: &T, first: u16, count: u16) -> Result<String, AllocError>
+pub(crate) fn all_texts<T: Numbered>(
+    heap: Global,
+    source: &T,
+    first: u16,
+    count: u16,
+) -> Result<String, AllocError>
     requires { ⌜ first + count ≤ 65535 ⌝ }
     ensures { λ r. ⌜ made r (λ s. string-bytes s ≡
         texts (T·Numbered .says (now (source .entry))) first count) ⌝ }

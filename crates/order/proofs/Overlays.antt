@@ -25,12 +25,14 @@ pub pasted-more : (out bs cs : List ℕ) (a : ℕ) → a ≤ length out
 pasted-more out bs cs a h =
     let p : List ℕ = take a out ++ bs in
     let d : List ℕ = drop (a + length bs) out in
-    let n : length p ≡ a + length bs = length-append (take a out) bs ∙ ap (λ x. x + length bs) (length-take-le a out h) in
+    let n : length p ≡ a + length bs =
+    length-append (take a out) bs ∙ ap (λ x. x + length bs) (length-take-le a out h)
+    in
     let front : take (a + length bs) (p ++ d) ≡ p = take-at p d (a + length bs) n in
     let back : drop (a + length bs + length cs) (p ++ d) ≡ drop (a + length bs + length cs) out =
-        sym (drop-drop (length cs) (a + length bs) (p ++ d))
-        ∙ ap (drop (length cs)) (drop-at p d (a + length bs) n)
-        ∙ drop-drop (length cs) (a + length bs) out
+    sym (drop-drop (length cs) (a + length bs) (p ++ d))
+    ∙ ap (drop (length cs)) (drop-at p d (a + length bs) n)
+    ∙ drop-drop (length cs) (a + length bs) out
     in
     ap (λ x. pasted x (a + length bs) cs) (sym (append-assoc (take a out) bs d))
     ∙ rw (front, back) (simp (append-assoc, length-append, ← add-assoc))
@@ -49,12 +51,12 @@ pub commands-more : (out now ops : List ℕ) (a j c x : ℕ) → a ≤ length ou
 commands-more out now ops a j c x h l e was =
     let done : List ℕ = joined (command c) (take j ops) in
     let n : length done ≡ 3 * j =
-        length-commands c (take j ops) ∙ ap (λ k. 3 * k) (length-take-le j ops (omega arith))
+    length-commands c (take j ops) ∙ ap (λ k. 3 * k) (length-take-le j ops (omega arith))
     in
     let step : done ++ command c x ≡ joined (command c) (take (j + 1) ops) =
-        joined-more (command c) [] (take j ops) x
-        ∙ ap (λ y. joined (command c) (take j ops ++ y ∷ [])) e
-        ∙ ap (joined (command c)) (sym (take-more ops j 0 l))
+    joined-more (command c) [] (take j ops) x
+    ∙ ap (λ y. joined (command c) (take j ops ++ y ∷ [])) e
+    ∙ ap (joined (command c)) (sym (take-more ops j 0 l))
     in
     rw (was, ← n) (pasted-more out done (command c x) a h ∙ ap (pasted out a) step)
 

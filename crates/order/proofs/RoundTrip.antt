@@ -31,7 +31,7 @@ quad-back : (n : ℕ) → n < 4294967296
 quad-back n h =
     let two : n / 65536 ≡ n / 256 / 256 = sym (div-div-eq-div-mul n 256 256) in
     let three : n / 16777216 ≡ n / 256 / 256 / 256 =
-        sym (ap (λ x. x / 256) (div-div-eq-div-mul n 256 256) ∙ div-div-eq-div-mul n 65536 256)
+    sym (ap (λ x. x / 256) (div-div-eq-div-mul n 256 256) ∙ div-div-eq-div-mul n 65536 256)
     in
     rw (two, three) (omega arith)
 
@@ -112,24 +112,30 @@ record Narrow (s : Shape) : Type 0 where
   fourth : s .«level4_threshold» < 65536
 
 narrow-of : (t : Tree) → Sizes t → Thresholds (t .shape) → Narrow (t .shape)
-narrow-of t z b = record
-  { ranks = omega arith
-  ; elements = omega arith
-  ; spacing = omega arith
-  ; readers = omega arith
-  ; writers = omega arith
-  ; second = omega arith
-  ; third = omega arith
-  ; fourth = omega arith
-  }
+narrow-of t z b = record {
+  ranks = omega arith;
+  elements = omega arith;
+  spacing = omega arith;
+  readers = omega arith;
+  writers = omega arith;
+  second = omega arith;
+  third = omega arith;
+  fourth = omega arith;
+}
 
 -- the numbers behind H
 shape-back : (s : Shape) (rest : List ℕ) → Narrow s → shape-in (head-bytes s ++ rest) ≡ s
 shape-back s rest n =
-    rw (pair-back (s .ranks) (n .ranks), pair-back (s .elements) (n .elements), pair-back (s .spacing) (n .spacing),
-        quad-back (s .«reader_threshold») (n .readers), pair-back (s .«writer_threshold») (n .writers),
-        pair-back (s .«level2_threshold») (n .second), pair-back (s .«level3_threshold») (n .third),
-        pair-back (s .«level4_threshold») (n .fourth))
+    rw (
+      pair-back (s .ranks) (n .ranks),
+      pair-back (s .elements) (n .elements),
+      pair-back (s .spacing) (n .spacing),
+      quad-back (s .«reader_threshold») (n .readers),
+      pair-back (s .«writer_threshold») (n .writers),
+      pair-back (s .«level2_threshold») (n .second),
+      pair-back (s .«level3_threshold») (n .third),
+      pair-back (s .«level4_threshold») (n .fourth),
+    )
 
 -- the parts of what is written, cut behind H, behind the E commands and behind the K commands
 module _ (h e k rest : List ℕ) (g : ℕ) where
@@ -171,7 +177,9 @@ module _ (h ps es rest : List ℕ) (twenty : length h ≡ 20)
   behind-k = simp (length-append, length-commands, twenty)
 
   parents-run : run whole letter-E 20 (length ps) ≡ Ok tt
-  parents-run = rw (cut-h h e k rest letter-G) (run-back h ps (k ++ letter-G ∷ rest) letter-E 20 refl (sym twenty) narrow-ps)
+  parents-run =
+      rw (cut-h h e k rest letter-G)
+      (run-back h ps (k ++ letter-G ∷ rest) letter-E 20 refl (sym twenty) narrow-ps)
 
   parents-read : operands whole 20 (length ps) ≡ ps
   parents-read =
@@ -189,7 +197,7 @@ module _ (h ps es rest : List ℕ) (twenty : length h ≡ 20)
   go-found : checked whole go letter-G ≡ Ok tt
   go-found =
       let long : go + 1 ≤ length (((h ++ e) ++ k) ++ letter-G ∷ rest) =
-          simp length-append (omega (arith, simp length-append at behind-k))
+      simp length-append (omega (arith, simp length-append at behind-k))
       in
       rw (cut-k h e k rest letter-G)
       (checked-ok (((h ++ e) ++ k) ++ letter-G ∷ rest) go letter-G (omega arith) long
@@ -205,21 +213,23 @@ reads-back t sized bounded rooted hung rest short =
     let es = t .seats in
     let bs = plan-bytes t ++ rest in
     let at = 20 + 3 * length ps in
-    let shape-is : t .shape ≡ shape-in bs = sym (shape-back (t .shape) [] (narrow-of t z (thresholds-of (t .shape) bounded))) in
+    let shape-is : t .shape ≡ shape-in bs =
+    sym (shape-back (t .shape) [] (narrow-of t z (thresholds-of (t .shape) bounded)))
+    in
     let narrow-ps : (j : ℕ) → j < length ps → getD ps j 0 < 65536 = λ j l. omega (arith, parent-below t j rooted l) in
     let narrow-es : (j : ℕ) → j < length es → getD es j 0 < 65536 = λ j l. omega (arith, rank-within t j hung l) in
     let all : length bs ≤ 65535 = rw length-append short in
     let some : 20 ≤ length bs = simp length-append (omega (arith, length-plan t)) in
     let listed = z .ranks-listed in
     let ranks-read′ : es ≡ operands bs at (t .shape .ranks) =
-        subst (λ (m : ℕ). es ≡ operands bs at m) listed (sym (ranks-read h ps es rest refl narrow-ps narrow-es))
+    subst (λ (m : ℕ). es ≡ operands bs at m) listed (sym (ranks-read h ps es rest refl narrow-ps narrow-es))
     in
     let ranks-run′ : run bs letter-K at (t .shape .ranks) ≡ Ok tt =
-        subst (λ (m : ℕ). run bs letter-K at m ≡ Ok tt) listed (ranks-run h ps es rest refl narrow-ps narrow-es)
+    subst (λ (m : ℕ). run bs letter-K at m ≡ Ok tt) listed (ranks-run h ps es rest refl narrow-ps narrow-es)
     in
     let go-found′ : checked bs (at + 3 * t .shape .ranks) letter-G ≡ Ok tt =
-        subst (λ (m : ℕ). checked bs (at + 3 * m) letter-G ≡ Ok tt) listed
-        (go-found h ps es rest refl narrow-ps narrow-es)
+    subst (λ (m : ℕ). checked bs (at + 3 * m) letter-G ≡ Ok tt) listed
+    (go-found h ps es rest refl narrow-ps narrow-es)
     in
     let end-is : at + 3 * t .shape .ranks + 1 ≡ length (plan-bytes t) = rw length-plan (omega arith) in
     let lawful : Ok t ≡ planned t = sym (rw (sized, bounded, rooted, hung)) in

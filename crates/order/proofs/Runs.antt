@@ -22,10 +22,10 @@ run-bad bs due at zero j f l r h = absurd (omega arith)
 run-bad bs due at (suc n) j f l r h =
     ⊎-elim (λ (m : j < n). ap (λ x. then x (checked bs (at + 3 * n) due)) (run-bad bs due at n j f m r h))
     (λ (m : n ≤ j).
-        let e : j ≡ n = omega arith in
-        let r′ = subst (λ (k : ℕ). run bs due at k ≡ Ok tt) e r in
-        let h′ = subst (λ (k : ℕ). checked bs (at + 3 * k) due ≡ Err f) e h in
-        ap (λ x. then x (checked bs (at + 3 * n) due)) r′ ∙ h′)
+    let e : j ≡ n = omega arith in
+    let r′ = subst (λ (k : ℕ). run bs due at k ≡ Ok tt) e r in
+    let h′ = subst (λ (k : ℕ). checked bs (at + 3 * k) due ≡ Err f) e h in
+    ap (λ x. then x (checked bs (at + 3 * n) due)) r′ ∙ h′)
     (cases-lt j n)
 
 pub operands-more : (bs : List ℕ) (at n : ℕ)

@@ -34,11 +34,11 @@ pub reading-by : (bs : List ℕ) (s : Shape) (n : ℕ) (ps es : List ℕ) (t : T
     → reading bs ≡ Ok (record { plan = t; end = 20 + 3 * n + 3 * s .ranks + 1 })
 reading-by bs s n ps es t s-is n-is ps-is es-is short h e k g p =
     let P : (x : Shape) (m : ℕ) → Type 0 =
-        λ x m. run bs letter-E 20 m ≡ Ok tt
-            → run bs letter-K (20 + 3 * m) (x .ranks) ≡ Ok tt
-            → checked bs (20 + 3 * m + 3 * x .ranks) letter-G ≡ Ok tt
-            → planned (tree x (operands bs 20 m) (operands bs (20 + 3 * m) (x .ranks))) ≡ Ok t
-            → reading bs ≡ Ok (record { plan = t; end = 20 + 3 * m + 3 * x .ranks + 1 })
+    λ x m. run bs letter-E 20 m ≡ Ok tt
+    → run bs letter-K (20 + 3 * m) (x .ranks) ≡ Ok tt
+    → checked bs (20 + 3 * m + 3 * x .ranks) letter-G ≡ Ok tt
+    → planned (tree x (operands bs 20 m) (operands bs (20 + 3 * m) (x .ranks))) ≡ Ok t
+    → reading bs ≡ Ok (record { plan = t; end = 20 + 3 * m + 3 * x .ranks + 1 })
     in
     let short′ : ltb 65535 (length bs) ≡ false = le-ltb 65535 (length bs) short in
     let base : P (shape-in bs) (parents-due bs) = reading-ok bs t short′ h in

@@ -13,18 +13,25 @@ use Rattle.order.specs.declared.fault.Fault.{Fault}
 -- the letters E, G, H, K, L, R, S and W
 abbrev pub letter-E : ℕ
 letter-E = 69
+
 abbrev pub letter-G : ℕ
 letter-G = 71
+
 abbrev pub letter-H : ℕ
 letter-H = 72
+
 abbrev pub letter-K : ℕ
 letter-K = 75
+
 abbrev pub letter-L : ℕ
 letter-L = 76
+
 abbrev pub letter-R : ℕ
 letter-R = 82
+
 abbrev pub letter-S : ℕ
 letter-S = 83
+
 abbrev pub letter-W : ℕ
 letter-W = 87
 

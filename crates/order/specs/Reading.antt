@@ -25,17 +25,17 @@ pub record Reading : Type 0 where
 
 -- the numbers behind H
 abbrev pub shape-in : List ℕ → Shape
-shape-in bs = record
-  { ranks = pair-at bs 1
-  ; elements = pair-at bs 3
-  ; levels = getD bs 5 0
-  ; spacing = pair-at bs 6
-  ; «reader_threshold» = quad-at bs 8
-  ; «writer_threshold» = pair-at bs 12
-  ; «level2_threshold» = pair-at bs 14
-  ; «level3_threshold» = pair-at bs 16
-  ; «level4_threshold» = pair-at bs 18
-  }
+shape-in bs = record {
+  ranks = pair-at bs 1;
+  elements = pair-at bs 3;
+  levels = getD bs 5 0;
+  spacing = pair-at bs 6;
+  «reader_threshold» = quad-at bs 8;
+  «writer_threshold» = pair-at bs 12;
+  «level2_threshold» = pair-at bs 14;
+  «level3_threshold» = pair-at bs 16;
+  «level4_threshold» = pair-at bs 18;
+}
 
 -- how many E and K commands are due
 abbrev pub parents-due : List ℕ → ℕ

@@ -22,14 +22,14 @@ pub fn check_command(order: &[u8], at: usize, due: char) -> Result<(), Fault>
     ensures { λ r. ⌜ r ≡ checked (now (order .entry)) at due ⌝ }
 {
     if at >= order.len() {
-        return Err(Fault { refusal: Refusal::Cut, offset: at });
+        return Err(Fault::new(Refusal::Cut, at));
     }
     let letter = byte_at(order, at) as char;
     if order.len() - at < length_of(letter) {
-        return Err(Fault { refusal: Refusal::Cut, offset: at });
+        return Err(Fault::new(Refusal::Cut, at));
     }
     if letter != due {
-        return Err(Fault { refusal: Refusal::Misplaced, offset: at });
+        return Err(Fault::new(Refusal::Misplaced, at));
     }
     Ok(())
 }

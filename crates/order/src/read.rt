@@ -48,11 +48,17 @@ fn read_shape(order: &[u8]) -> Shape
 }
 
 // The operands of `count` commands of one letter, from a place on, or the first fault.
-fn read_operands(heap: Global, order: &[u8], at: usize, letter: char, count: u16) -> Result<Vec<u16>, Fault>
+fn read_operands(
+    heap: Global,
+    order: &[u8],
+    at: usize,
+    letter: char,
+    count: u16,
+) -> Result<Vec<u16>, Fault>
     requires { ⌜ at ≤ 500000 ⌝ }
     ensures { λ r. ⌜ Cases r
         (λ v. (run (now (order .entry)) letter at count ≡ Ok tt)
-            × (vec-items v ≡ operands (now (order .entry)) at count))
+        × (vec-items v ≡ operands (now (order .entry)) at count))
         (λ f. isSome (number-of (f .refusal)) ≡ true → run (now (order .entry)) letter at count ≡ Err f) ⌝ }
 {
     let mut list = Vec::new(heap);
@@ -60,7 +66,7 @@ fn read_operands(heap: Global, order: &[u8], at: usize, letter: char, count: u16
         let place = at + 3 * j as usize;
         check_command(order, place, letter)?;
         if list.push(pair(order, place + 1)).is_err() {
-            return Err(Fault { refusal: Refusal::OutOfMemory, offset: place });
+            return Err(Fault::new(Refusal::OutOfMemory, place));
         }
     }
     Ok(list)
@@ -72,7 +78,7 @@ pub fn read_plan(heap: Global, order: &[u8]) -> Result<PlanRead, Fault>
     ensures { λ r. ⌜ Answers r (reading (now (order .entry))) ⌝ }
 {
     if order.len() > LONGEST_ORDER {
-        return Err(Fault { refusal: Refusal::OrderTooLong, offset: LONGEST_ORDER });
+        return Err(Fault::new(Refusal::OrderTooLong, LONGEST_ORDER));
     }
     check_command(order, 0, 'H')?;
     let shape = read_shape(order);
@@ -84,6 +90,6 @@ pub fn read_plan(heap: Global, order: &[u8]) -> Result<PlanRead, Fault>
     check_command(order, go, 'G')?;
     match Plan::new(shape, parents, rank_elements) {
         Ok(plan) => Ok(PlanRead { plan, end: go + 1 }),
-        Err(refusal) => Err(Fault { refusal, offset: go }),
+        Err(refusal) => Err(Fault::new(refusal, go)),
     }
 }

@@ -32,8 +32,26 @@ fn head(shape: Shape) -> [u8; 20]
     let l3 = shape.level3_threshold.to_be_bytes();
     let l4 = shape.level4_threshold.to_be_bytes();
     [
-        b'H', p[0], p[1], e[0], e[1], shape.levels, c[0], c[1], r[0], r[1], r[2], r[3], w[0], w[1], l2[0], l2[1],
-        l3[0], l3[1], l4[0], l4[1],
+        b'H',
+        p[0],
+        p[1],
+        e[0],
+        e[1],
+        shape.levels,
+        c[0],
+        c[1],
+        r[0],
+        r[1],
+        r[2],
+        r[3],
+        w[0],
+        w[1],
+        l2[0],
+        l2[1],
+        l3[0],
+        l3[1],
+        l4[0],
+        l4[1],
     ]
 }
 

@@ -16,8 +16,8 @@ every-false p zero k h e = absurd (omega arith)
 every-false p (suc n) k h e =
     ⊎-elim (λ (l : k < n). and-right (p n) (every p n) (every-false p n k l e))
     (λ (l : n ≤ k).
-        let m : k ≡ n = omega arith in
-        and-left (p n) (every p n) (subst (λ (j : ℕ). p j ≡ false) m e))
+    let m : k ≡ n = omega arith in
+    and-left (p n) (every p n) (subst (λ (j : ℕ). p j ≡ false) m e))
     (cases-lt k n)
 
 pub every-at : (p : ℕ → Bool) (n k : ℕ) → every p n ≡ true → k < n → p k ≡ true

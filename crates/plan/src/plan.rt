@@ -20,5 +20,6 @@ pub struct Plan {
     ghost sized: { sizes-ok shape (vec-items parents) (vec-items «rank_elements») ≡ true },
     ghost bounded: { thresholds-ok shape ≡ true },
     ghost rooted: { every (parent-ok shape (vec-items parents)) (length (vec-items parents)) ≡ true },
-    ghost hung: { every (rank-ok shape (vec-items parents) (vec-items «rank_elements»)) (length (vec-items «rank_elements»)) ≡ true },
+    ghost hung: { every (rank-ok shape (vec-items parents) (vec-items «rank_elements»))
+        (length (vec-items «rank_elements»)) ≡ true },
 }

@@ -3,7 +3,16 @@
 
 ghost use mathlib.Core.Path.{_≡_};
 ghost use Rattle.plan.specs.Trees.{
-    asked, element-at, node-home, on-way, own-counter, own-counter-home, own-element, own-level, queue-home, tree-of,
+  asked,
+  element-at,
+  node-home,
+  on-way,
+  own-counter,
+  own-counter-home,
+  own-element,
+  own-level,
+  queue-home,
+  tree-of,
 };
 ghost use Rattle.plan.specs.Shapes.{within};
 use crate::plan::Plan;

@@ -12,7 +12,12 @@ use std::alloc::Global;
 use std::test::*;
 
 // Plan A with another number of ranks, another parent of element 2 or another threshold of level 2.
-fn changed(heap: Global, ranks: u16, parent: u16, threshold: u16) -> Result<Result<Plan, Refusal>, AllocError> {
+fn changed(
+    heap: Global,
+    ranks: u16,
+    parent: u16,
+    threshold: u16,
+) -> Result<Result<Plan, Refusal>, AllocError> {
     let shape = Shape {
         ranks,
         elements: 3,
@@ -33,25 +38,27 @@ fn changed(heap: Global, ranks: u16, parent: u16, threshold: u16) -> Result<Resu
 }
 
 // The number of the refusal, or 0 where the plan is made.
-fn refused(made: Result<Plan, Refusal>) -> u8 {
+fn refused(made: Result<Plan, Refusal>) -> u64 {
     match made {
         Ok(_) => 0,
-        Err(refusal) => refusal.number().unwrap_or(0),
+        Err(refusal) => refusal.number().unwrap_or(0) as u64,
     }
 }
 
 // What the code answers, beside what the table says.
 fn answer(heap: Global, plan: &Plan, case: Case) -> Result<(u64, u64), Fail> {
-    Ok(match case {
-        Case::CounterHome { rank, home } => (questions::counter_home_of_rank(plan, rank)?, home),
-        Case::Node { rank, level, home } => (questions::node_of_rank(plan, rank, level)?, home),
-        Case::Queue { rank, level, home } => (questions::queue_of_rank(plan, rank, level)?, home),
-        Case::Ranks { count, refused: number } => (refused(changed(heap, count, 1, 1)?) as u64, number as u64),
-        Case::Level2Threshold { threshold, refused: number } => {
-            (refused(changed(heap, 5, 1, threshold)?) as u64, number as u64)
-        }
-        Case::Parent { parent, refused: number } => (refused(changed(heap, 5, parent, 1)?) as u64, number as u64),
-    })
+    let both = match case {
+        Case::CounterHome(rank, home) => (questions::counter_home_of_rank(plan, rank)?, home),
+        Case::Node(rank, level, home) => (questions::node_of_rank(plan, rank, level)?, home),
+        Case::Queue(rank, level, home) => (questions::queue_of_rank(plan, rank, level)?, home),
+        Case::Ranks(ranks, number) => (refused(changed(heap, ranks, 1, 1)?), number as u64),
+        Case::Level2Threshold(threshold, number) => (
+            refused(changed(heap, 5, 1, threshold)?),
+            number as u64,
+        ),
+        Case::Parent(parent, number) => (refused(changed(heap, 5, parent, 1)?), number as u64),
+    };
+    Ok(both)
 }
 
 #[test]

@@ -6,52 +6,49 @@ use std::alloc::Global;
 use std::test::*;
 
 // Plan A as an order: H at 0, E at 20 and 23, K at 26, 29, .., 38, G at 41.
-const PLAN_A: [u8; 42] = *b"H\x00\x05\x00\x03\x02\x00\x02\x00\x00\x00\x02\x00\x02\x00\x01\x00\x00\x00\x00E\x00\x01E\x00\x01K\x00\x02K\x00\x02K\x00\x02K\x00\x03K\x00\x03G";
+const PLAN_A: [u8; 42] =
+    *b"H\x00\x05\x00\x03\x02\x00\x02\x00\x00\x00\x02\x00\x02\x00\x01\x00\x00\x00\x00\
+E\x00\x01E\x00\x01K\x00\x02K\x00\x02K\x00\x02K\x00\x03K\x00\x03G";
 
-// The byte at `at` becomes `byte`; then the order is refused by `number` at `offset`.
+// A place in plan A and the byte put there, then the number of the refusal and its offset.
 #[derive(Clone, Copy)]
-struct Changed {
-    at: usize,
-    byte: u8,
-    number: u8,
-    offset: usize,
-}
+struct Changed(usize, u8, u8, usize);
 
 const CHANGED: [Changed; 30] = [
     // letters that are unknown or not due
-    Changed { at: 0, byte: b'X', number: 14, offset: 0 },
-    Changed { at: 0, byte: b'G', number: 14, offset: 0 },
-    Changed { at: 20, byte: b'e', number: 14, offset: 20 },
-    Changed { at: 20, byte: b'K', number: 14, offset: 20 },
-    Changed { at: 20, byte: b'W', number: 14, offset: 20 },
-    Changed { at: 26, byte: b'E', number: 14, offset: 26 },
-    Changed { at: 38, byte: b'G', number: 14, offset: 38 },
-    Changed { at: 41, byte: b'x', number: 14, offset: 41 },
+    Changed(0, b'X', 14, 0),
+    Changed(0, b'G', 14, 0),
+    Changed(20, b'e', 14, 20),
+    Changed(20, b'K', 14, 20),
+    Changed(20, b'W', 14, 20),
+    Changed(26, b'E', 14, 26),
+    Changed(38, b'G', 14, 38),
+    Changed(41, b'x', 14, 41),
     // a command that is not due and cut besides
-    Changed { at: 41, byte: b'K', number: 13, offset: 41 },
-    Changed { at: 41, byte: b'S', number: 13, offset: 41 },
-    Changed { at: 26, byte: b'H', number: 13, offset: 26 },
+    Changed(41, b'K', 13, 41),
+    Changed(41, b'S', 13, 41),
+    Changed(26, b'H', 13, 26),
     // other numbers of ranks and elements move what is due
-    Changed { at: 2, byte: 6, number: 14, offset: 41 },
-    Changed { at: 2, byte: 4, number: 14, offset: 38 },
-    Changed { at: 4, byte: 0, number: 14, offset: 20 },
+    Changed(2, 6, 14, 41),
+    Changed(2, 4, 14, 38),
+    Changed(4, 0, 14, 20),
     // numbers out of limits, reported at G
-    Changed { at: 5, byte: 0, number: 1, offset: 41 },
-    Changed { at: 5, byte: 5, number: 1, offset: 41 },
-    Changed { at: 7, byte: 0, number: 1, offset: 41 },
-    Changed { at: 7, byte: 6, number: 1, offset: 41 },
-    Changed { at: 11, byte: 0, number: 2, offset: 41 },
-    Changed { at: 8, byte: 1, number: 2, offset: 41 },
-    Changed { at: 13, byte: 0, number: 2, offset: 41 },
-    Changed { at: 15, byte: 0, number: 2, offset: 41 },
-    Changed { at: 17, byte: 1, number: 2, offset: 41 },
-    Changed { at: 5, byte: 3, number: 2, offset: 41 },
-    Changed { at: 22, byte: 0, number: 3, offset: 41 },
-    Changed { at: 22, byte: 2, number: 3, offset: 41 },
-    Changed { at: 25, byte: 2, number: 3, offset: 41 },
-    Changed { at: 28, byte: 0, number: 4, offset: 41 },
-    Changed { at: 28, byte: 1, number: 4, offset: 41 },
-    Changed { at: 28, byte: 4, number: 4, offset: 41 },
+    Changed(5, 0, 1, 41),
+    Changed(5, 5, 1, 41),
+    Changed(7, 0, 1, 41),
+    Changed(7, 6, 1, 41),
+    Changed(11, 0, 2, 41),
+    Changed(8, 1, 2, 41),
+    Changed(13, 0, 2, 41),
+    Changed(15, 0, 2, 41),
+    Changed(17, 1, 2, 41),
+    Changed(5, 3, 2, 41),
+    Changed(22, 0, 3, 41),
+    Changed(22, 2, 3, 41),
+    Changed(25, 2, 3, 41),
+    Changed(28, 0, 4, 41),
+    Changed(28, 1, 4, 41),
+    Changed(28, 4, 4, 41),
 ];
 
 // The number and the offset of the fault, or 0 and the offset behind G.
@@ -86,12 +83,11 @@ fn plan_a_is_read_and_written_back(rt: LibcRuntime) -> Result<(), Fail> {
 #[test]
 fn single_faults(rt: LibcRuntime) -> Result<(), Fail> {
     let heap = rt.alloc();
-    for case in CHANGED {
+    for Changed(at, byte, number, offset) in CHANGED {
         let mut order = PLAN_A;
-        if case.at < 42 {
-            order[case.at] = case.byte;
-        }
-        check_eq(outcome(heap, &order), (case.number, case.offset))?;
+        check(at < 42)?;
+        order[at] = byte;
+        check_eq(outcome(heap, &order), (number, offset))?;
     }
     Ok(())
 }
@@ -100,7 +96,11 @@ fn single_faults(rt: LibcRuntime) -> Result<(), Fail> {
 fn every_cut(rt: LibcRuntime) -> Result<(), Fail> {
     let heap = rt.alloc();
     for length in 0..42usize {
-        let offset = if length < 20 { 0 } else { 20 + (length - 20) / 3 * 3 };
+        let offset = if length < 20 {
+            0
+        } else {
+            20 + (length - 20) / 3 * 3
+        };
         check_eq(outcome(heap, &PLAN_A[0..length]), (13, offset))?;
     }
     Ok(())

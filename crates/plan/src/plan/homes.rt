@@ -6,8 +6,24 @@ ghost use mathlib.Core.Path.{_≡_};
 ghost use lib.Dec.{ltb};
 ghost use lib.ListN.{length};
 ghost use Rattle.plan.specs.Trees.{
-    counter-home, counters, element-at, element-home, has-element, has-rank, homes, level-of, level-threshold,
-    node-home, own-counter, own-counter-home, own-element, own-level, parent-of, queue-home, threshold, tree-of,
+  counter-home,
+  counters,
+  element-at,
+  element-home,
+  has-element,
+  has-rank,
+  homes,
+  level-of,
+  level-threshold,
+  node-home,
+  own-counter,
+  own-counter-home,
+  own-element,
+  own-level,
+  parent-of,
+  queue-home,
+  threshold,
+  tree-of,
 };
 use crate::plan::Plan;
 use crate::plan::tree::at_or_zero;

@@ -61,7 +61,8 @@ fn rank_fits(shape: &Shape, parents: &[u16], elements: &[u16], j: usize) -> bool
     ensures { λ r. ⌜ r ≡ rank-ok (now (shape .entry)) (now (parents .entry)) (now (elements .entry)) j ⌝ }
 {
     let k = elements[j];
-    is_within(1, shape.elements as u64, k as u64) && level_in_tree(parents, k as usize) == shape.levels
+    is_within(1, shape.elements as u64, k as u64)
+        && level_in_tree(parents, k as usize) == shape.levels
 }
 
 fn parents_fit(shape: &Shape, parents: &[u16]) -> bool

@@ -4,4 +4,5 @@ use Rattle.order.proofs.write.put.Needs as need
 
 pub returns : need.returns
 returns c =
-    part-pasted (c .args .out .now) _ (c .args .bytes .now) (c .args .at) _ (c .copy-from-slice .ensures .after) (omega arith)
+    part-pasted (c .args .out .now) _ (c .args .bytes .now) (c .args .at) _ (c .copy-from-slice .ensures .after)
+    (omega arith)
