@@ -1,0 +1,19 @@
+//! Memories of shared words behind one interface: homes of five words each, in words, in bytes, or joined.
+
+mod interface;
+mod offsets;
+mod place;
+mod word;
+
+pub use interface::Memory;
+pub use interface::ReadMemory;
+pub use offsets::ARRIVE;
+pub use offsets::DEPART;
+pub use offsets::HOME_WORDS;
+pub use offsets::MAX_HOMES;
+pub use offsets::NEXT;
+pub use offsets::STATUS;
+pub use offsets::TAIL;
+pub use word::WordMemory;
+pub use word::WordMemoryChange;
+pub use word::WordMemoryRead;

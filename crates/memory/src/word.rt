@@ -1,0 +1,88 @@
+//! The word memory: a lent table of words, five to a home.
+
+ghost use Rattle.memory.specs.Layout.{table-words};
+ghost use Rattle.memory.specs.Tables.{words-of, spare-of};
+ghost use Rattle.memory.specs.Words.{accepted, written, got, added, exchanged};
+ghost use mathlib.Core.Path.{_≡_};
+use crate::interface::Memory;
+use crate::interface::ReadMemory;
+use crate::offsets::HOME_WORDS;
+use crate::offsets::MAX_HOMES;
+use crate::place::place;
+use refusal::Refusal;
+
+/// A caller's table of words. Its homes are the whole fives of the table, at most 4,096 of them.
+#[derive(Drop)]
+pub struct WordMemory<'a> {
+    table: &'a mut [u64],
+}
+
+impl<'a> WordMemory<'a> {
+    /// The memory over a table.
+    pub fn new(table: &'a mut [u64]) -> Self
+        ensures { λ r. ⌜ words-of r ≡ table-words (now (table .entry)) ⌝ }
+    {
+        WordMemory { table }
+    }
+}
+
+pub impl<'a> ReadMemory for WordMemory<'a> as WordMemoryRead {
+    ghost words = { words-of };
+
+    fn count(&self) -> u64 {
+        (self.table.len() as u64 / HOME_WORDS).min(MAX_HOMES)
+    }
+
+    fn get(&self, home: u64, offset: u64) -> Result<u64, Refusal> {
+        let at = place(self.count(), home, offset)?;
+        Ok(self.table[at as usize])
+    }
+}
+
+pub impl<'a> Memory for WordMemory<'a> as WordMemoryChange {
+    fn put(&mut self, home: u64, offset: u64, word: u64) -> Result<(), Refusal>
+        ensures value { λ r. ⌜ r ≡ accepted (words-of (now (self .entry))) home offset ⌝ }
+        ensures after { λ _. ⌜ words-of (now (self .exit)) ≡ written (words-of (now (self .entry))) home offset word ⌝ }
+        ensures count { λ _. ⌜ words-of (now (self .exit)) .count ≡ words-of (now (self .entry)) .count ⌝ }
+        ensures spare { λ _. ⌜ spare-of (now (self .exit)) ≡ spare-of (now (self .entry)) ⌝ }
+    {
+        let at = place(self.count(), home, offset)?;
+        self.table[at as usize] = word;
+        Ok(())
+    }
+
+    fn swap(&mut self, home: u64, offset: u64, word: u64) -> Result<u64, Refusal>
+        ensures value { λ r. ⌜ r ≡ got (words-of (now (self .entry))) home offset ⌝ }
+        ensures after { λ _. ⌜ words-of (now (self .exit)) ≡ written (words-of (now (self .entry))) home offset word ⌝ }
+        ensures count { λ _. ⌜ words-of (now (self .exit)) .count ≡ words-of (now (self .entry)) .count ⌝ }
+        ensures spare { λ _. ⌜ spare-of (now (self .exit)) ≡ spare-of (now (self .entry)) ⌝ }
+    {
+        let old = self.get(home, offset)?;
+        self.put(home, offset, word)?;
+        Ok(old)
+    }
+
+    fn add(&mut self, home: u64, offset: u64, by: u64) -> Result<u64, Refusal>
+        ensures value { λ r. ⌜ r ≡ got (words-of (now (self .entry))) home offset ⌝ }
+        ensures after { λ _. ⌜ words-of (now (self .exit)) ≡ added (words-of (now (self .entry))) home offset by ⌝ }
+        ensures count { λ _. ⌜ words-of (now (self .exit)) .count ≡ words-of (now (self .entry)) .count ⌝ }
+        ensures spare { λ _. ⌜ spare-of (now (self .exit)) ≡ spare-of (now (self .entry)) ⌝ }
+    {
+        let old = self.get(home, offset)?;
+        self.put(home, offset, old.wrapping_add(by))?;
+        Ok(old)
+    }
+
+    fn cas(&mut self, home: u64, offset: u64, expected: u64, new: u64) -> Result<u64, Refusal>
+        ensures value { λ r. ⌜ r ≡ got (words-of (now (self .entry))) home offset ⌝ }
+        ensures after { λ _. ⌜ words-of (now (self .exit)) ≡ exchanged (words-of (now (self .entry))) home offset expected new ⌝ }
+        ensures count { λ _. ⌜ words-of (now (self .exit)) .count ≡ words-of (now (self .entry)) .count ⌝ }
+        ensures spare { λ _. ⌜ spare-of (now (self .exit)) ≡ spare-of (now (self .entry)) ⌝ }
+    {
+        let old = self.get(home, offset)?;
+        if old == expected {
+            self.put(home, offset, new)?;
+        }
+        Ok(old)
+    }
+}
