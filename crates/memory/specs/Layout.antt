@@ -1,5 +1,5 @@
 -- Where the words of the three memories stand: a table of words, a window of bytes, two memories joined.
-use Prim.Native.Nat.{ℕ, _+_, _-_, _*_, _/_, min}
+use Prim.Native.Nat.{ℕ, _+_, _-_, _*_, _/_, _^_, min}
 use mathlib.Core.Bool.{cond}
 use mathlib.Core.List.{List}
 use lib.ListN.{length, getD, drop}
@@ -33,9 +33,8 @@ table-words xs = row-words (homes-in home-words xs) (λ i. getD xs i 0)
 -- the word that the eight bytes from i on spell, the most significant first
 abbrev pub be-word : List ℕ → ℕ → ℕ
 be-word xs i =
-    getD xs i 0 * 72057594037927936 + getD xs (i + 1) 0 * 281474976710656
-    + getD xs (i + 2) 0 * 1099511627776 + getD xs (i + 3) 0 * 4294967296
-    + getD xs (i + 4) 0 * 16777216 + getD xs (i + 5) 0 * 65536 + getD xs (i + 6) 0 * 256 + getD xs (i + 7) 0
+    getD xs i 0 * 2 ^ 56 + getD xs (i + 1) 0 * 2 ^ 48 + getD xs (i + 2) 0 * 2 ^ 40 + getD xs (i + 3) 0 * 2 ^ 32
+    + getD xs (i + 4) 0 * 2 ^ 24 + getD xs (i + 5) 0 * 2 ^ 16 + getD xs (i + 6) 0 * 2 ^ 8 + getD xs (i + 7) 0
 
 -- the meaning of a window of bytes
 abbrev pub byte-words : List ℕ → Words

@@ -2,3 +2,4 @@ pub mod Sizes
 pub mod Words
 pub mod Layout
 pub mod Tables
+pub mod Windows

@@ -1,10 +1,15 @@
 //! Memories of shared words behind one interface: homes of five words each, in words, in bytes, or joined.
 
+mod byte;
+mod endian;
 mod interface;
 mod offsets;
 mod place;
 mod word;
 
+pub use byte::ByteMemory;
+pub use byte::ByteMemoryChange;
+pub use byte::ByteMemoryRead;
 pub use interface::Memory;
 pub use interface::ReadMemory;
 pub use offsets::ARRIVE;

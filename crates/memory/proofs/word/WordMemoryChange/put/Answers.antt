@@ -1,7 +1,7 @@
 -- A put writes one place of the table, which is one word of one home, and before the spare words.
 use borrow.Author.Needs.{needs}
 use native.Mathlib.Omega.{arith}
-use Rattle.memory.proofs.Rows.{table-set, table-spare}
+use Rattle.memory.proofs.Tables.{table-set, table-spare}
 use Rattle.memory.specs.Layout.{place-of}
 use Rattle.memory.proofs.word.WordMemoryChange.put.Needs as need
 
