@@ -3,3 +3,4 @@ pub mod Words
 pub mod Layout
 pub mod Tables
 pub mod Windows
+pub mod Joins

@@ -3,6 +3,7 @@
 mod byte;
 mod endian;
 mod interface;
+mod joined;
 mod offsets;
 mod place;
 mod word;
@@ -12,6 +13,9 @@ pub use byte::ByteMemoryChange;
 pub use byte::ByteMemoryRead;
 pub use interface::Memory;
 pub use interface::ReadMemory;
+pub use joined::JoinedMemory;
+pub use joined::JoinedMemoryChange;
+pub use joined::JoinedMemoryRead;
 pub use offsets::ARRIVE;
 pub use offsets::DEPART;
 pub use offsets::HOME_WORDS;
