@@ -4,3 +4,4 @@ pub mod Layout
 pub mod Tables
 pub mod Windows
 pub mod Joins
+pub mod Operations

@@ -1,27 +1,19 @@
--- At a home of the second memory, its own cas does all.
-use Prim.Native.Nat.{ℕ, _+_, _-_, _%_, _^_}
+-- At a home of the second memory, that memory's own cas does all.
 use borrow.Author.Needs.{needs}
-use mathlib.Core.Path.{_∙_, ap}
 use native.Mathlib.Omega.{arith}
-use Rattle.memory.specs.Layout.{joined-words, spare-words}
-use Rattle.memory.proofs.Joining.{Second, got-second, exchanged-second, exchanged-spare}
+use Rattle.memory.proofs.Joining.{Second, got-second, exchanged-second}
 use Rattle.memory.proofs.joined.JoinedMemoryChange.cas.Needs as need
 
 pub returns-in-Second : need.returns-in-Second
 returns-in-Second g c =
     let a = g .P·ReadMemory .words (c .args .self .now .first) in
     let b = g .Q·ReadMemory .words (c .args .self .now .second) in
+    let z = g .Q·ReadMemory .words (c .cas-in-Second .last .self) in
     let home = c .args .home in
     let far = c .in-Second .far in
     let offset = c .args .offset in
-    let e = c .cas-in-Second .ensures in
     let f = c .in-Second .ensures tt in
-    let n = c .count .ensures .value in
-    let s : Second a home far =
-          record { is = f .0 ∙ ap (λ (m : ℕ). home - m) n; past = omega arith; within = f .1 } in
-    record
-      { value = e .value ∙ got-second a b home far offset s
-      ; after = ap (joined-words a) (e .after) ∙ exchanged-second a b home far offset (c .args .expected) (c .args .new) s
-      ; count = search needs
-      ; spare = ap (spare-words a) (e .after) ∙ exchanged-spare a b home far offset (c .args .expected) (c .args .new) s
-      }
+    let s : Second a home far = record { is = omega arith; past = omega arith; within = omega arith } in
+    let t = exchanged-second a b z home far offset (c .args .expected) (c .args .new) s (c .cas-in-Second .ensures .after) in
+    let u = got-second a b home far offset s in
+    search needs
