@@ -26,33 +26,33 @@ word-second : (a b : Words) (h far o : ℕ) → Second a h far → b .word far o
 word-second a b h far o s = search needs
 
 all-written : (a b : Words) (h far o w : ℕ) → Second a h far
-  → joined-words a (written b far o w) ≡ written (joined-words a b) h o w
+    → joined-words a (written b far o w) ≡ written (joined-words a b) h o w
 all-written a b h far o w s = search needs
 
 spare-written : (a b : Words) (h far o w : ℕ) → Second a h far
-  → spare-words a (written b far o w) ≡ spare-words a b
+    → spare-words a (written b far o w) ≡ spare-words a b
 spare-written a b h far o w s = search needs
 
 pub written-second : (a b z : Words) (h far o w : ℕ) → Second a h far → z ≡ written b far o w
-  → Carried a b z (written (joined-words a b) h o w)
-written-second a b z h far o w s e = record
-  { all = ap (joined-words a) e ∙ all-written a b h far o w s
-  ; spare = ap (spare-words a) e ∙ spare-written a b h far o w s
-  }
+    → Carried a b z (written (joined-words a b) h o w)
+written-second a b z h far o w s e = record {
+  all = ap (joined-words a) e ∙ all-written a b h far o w s;
+  spare = ap (spare-words a) e ∙ spare-written a b h far o w s;
+}
 
 pub added-second : (a b z : Words) (h far o w : ℕ) → Second a h far → z ≡ added b far o w
-  → Carried a b z (added (joined-words a b) h o w)
+    → Carried a b z (added (joined-words a b) h o w)
 added-second a b z h far o w s e =
     written-second a b z h far o ((joined-words a b .word h o + w) % 2 ^ 64) s
-      (e ∙ ap (λ (x : ℕ). written b far o ((x + w) % 2 ^ 64)) (word-second a b h far o s))
+    (e ∙ ap (λ (x : ℕ). written b far o ((x + w) % 2 ^ 64)) (word-second a b h far o s))
 
 pub exchanged-second : (a b z : Words) (h far o w v : ℕ) → Second a h far → z ≡ exchanged b far o w v
-  → Carried a b z (exchanged (joined-words a b) h o w v)
+    → Carried a b z (exchanged (joined-words a b) h o w v)
 exchanged-second a b z h far o w v s e =
     either (eqb (joined-words a b .word h o) w)
-      (e ∙ ap (λ (x : ℕ). cond (eqb x w) (written b far o v) b) (word-second a b h far o s))
+    (e ∙ ap (λ (x : ℕ). cond (eqb x w) (written b far o v) b) (word-second a b h far o s))
   where
     either : (t : Bool) → z ≡ cond t (written b far o v) b
-      → Carried a b z (cond t (written (joined-words a b) h o v) (joined-words a b))
+        → Carried a b z (cond t (written (joined-words a b) h o v) (joined-words a b))
     either true d = written-second a b z h far o v s d
     either false d = record { all = ap (joined-words a) d; spare = ap (spare-words a) d }

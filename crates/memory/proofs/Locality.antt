@@ -13,7 +13,7 @@ written-local : (ws : Words) (home offset w : ℕ) → Local ws (written ws home
 written-local ws home offset w h o ne = search needs
 
 pub performed-local : (ws : Words) (home offset : ℕ) (op : Operation)
-  → Local ws (performed ws home offset op) home offset
+    → Local ws (performed ws home offset op) home offset
 performed-local ws home offset Get = λ h o ne. refl
 performed-local ws home offset (Put w) = written-local ws home offset w
 performed-local ws home offset (Swap w) = written-local ws home offset w
@@ -26,6 +26,6 @@ performed-local ws home offset (Cas w v) = either (eqb (ws .word home offset) w)
 
 -- the same of words that are known to be those after the operation
 pub local-after : (ws after : Words) (home offset : ℕ) (op : Operation) → after ≡ performed ws home offset op
-  → Local ws after home offset
+    → Local ws after home offset
 local-after ws after home offset op e =
     subst (λ (x : Words). Local ws x home offset) (sym e) (performed-local ws home offset op)

@@ -10,12 +10,12 @@ use Rattle.memory.specs.Layout.{place-of, row-words, homes-in, table-words, sp
 use Rattle.memory.proofs.Rows.{row-set}
 
 pub table-set : (xs : List ℕ) (h o w : ℕ) → 0 < h → h ≤ homes-in 5 xs → o ≤ 4
-  → table-words (set xs (place-of h o) w) ≡ storing (table-words xs) h o w
+    → table-words (set xs (place-of h o) w) ≡ storing (table-words xs) h o w
 table-set xs h o w p q r =
     ap (λ (n : ℕ). row-words (min 4096 (n / 5)) (λ i. getD ys i 0)) (length-set xs (place-of h o) w)
     ∙ row-set (homes-in 5 xs) (λ i. getD xs i 0) (λ i. getD ys i 0) h o w p q r
-        (getD-set-same xs (place-of h o) w 0 (omega arith))
-        (λ i ne. getD-set-other xs (place-of h o) i w 0 ne)
+    (getD-set-same xs (place-of h o) w 0 (omega arith))
+    (λ i ne. getD-set-other xs (place-of h o) i w 0 ne)
   where
     ys : List ℕ
     ys = set xs (place-of h o) w

@@ -13,10 +13,10 @@ place-of home offset = (home - 1) * home-words + offset
 
 -- the words of n homes that stand in one row; outside there are zeros
 abbrev pub row-words : ℕ → (ℕ → ℕ) → Words
-row-words n at = record
-  { count = n
-  ; word = λ h o. cond (eqb h 0) 0 (cond (ltb n h) 0 (cond (ltb depart-offset o) 0 (at (place-of h o))))
-  }
+row-words n at = record {
+  count = n;
+  word = λ h o. cond (eqb h 0) 0 (cond (ltb n h) 0 (cond (ltb depart-offset o) 0 (at (place-of h o))));
+}
 
 -- how many whole homes of so many items each a list has, at most 4,096
 abbrev pub homes-in : ℕ → List ℕ → ℕ
@@ -42,10 +42,10 @@ byte-words xs = row-words (homes-in home-bytes xs) (λ i. be-word xs (8 * i))
 
 -- two memories one after the other, at most 4,096 homes of them
 abbrev pub joined-words : Words → Words → Words
-joined-words a b = record
-  { count = min max-homes (a .count + b .count)
-  ; word = λ h o. cond (leb h (a .count)) (a .word h o) (b .word (h - a .count) o)
-  }
+joined-words a b = record {
+  count = min max-homes (a .count + b .count);
+  word = λ h o. cond (leb h (a .count)) (a .word h o) (b .word (h - a .count) o);
+}
 
 -- the words of the second memory's homes that the joined memory drops; elsewhere zeros
 abbrev pub spare-words : Words → Words → ℕ → ℕ → ℕ

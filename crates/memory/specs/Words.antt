@@ -21,10 +21,10 @@ refusing count home offset refused x =
 
 -- the words with w at one home and offset, whatever stood there
 abbrev pub storing : Words → ℕ → ℕ → ℕ → Words
-storing ws home offset w = record
-  { count = ws .count
-  ; word = λ h o. cond (eqb h home && eqb o offset) w (ws .word h o)
-  }
+storing ws home offset w = record {
+  count = ws .count;
+  word = λ h o. cond (eqb h home && eqb o offset) w (ws .word h o);
+}
 
 -- what get answers, and swap, add and cas too: the word before, or the refusal
 abbrev pub got : Words → ℕ → ℕ → Result ℕ Refusal

@@ -46,7 +46,8 @@ pub impl<'a> ReadMemory for ByteMemory<'a> as ByteMemoryRead {
 pub impl<'a> Memory for ByteMemory<'a> as ByteMemoryChange {
     fn put(&mut self, home: u64, offset: u64, word: u64) -> Result<(), Refusal>
         ensures value { λ r. ⌜ r ≡ accepted (words-of (now (self .entry))) home offset ⌝ }
-        ensures after { λ _. ⌜ words-of (now (self .exit)) ≡ written (words-of (now (self .entry))) home offset word ⌝ }
+        ensures after { λ _. ⌜ words-of (now (self .exit))
+            ≡ written (words-of (now (self .entry))) home offset word ⌝ }
         ensures count { λ _. ⌜ words-of (now (self .exit)) .count ≡ words-of (now (self .entry)) .count ⌝ }
         ensures spare { λ _. ⌜ spare-of (now (self .exit)) ≡ spare-of (now (self .entry)) ⌝ }
     {
@@ -57,7 +58,8 @@ pub impl<'a> Memory for ByteMemory<'a> as ByteMemoryChange {
 
     fn swap(&mut self, home: u64, offset: u64, word: u64) -> Result<u64, Refusal>
         ensures value { λ r. ⌜ r ≡ got (words-of (now (self .entry))) home offset ⌝ }
-        ensures after { λ _. ⌜ words-of (now (self .exit)) ≡ written (words-of (now (self .entry))) home offset word ⌝ }
+        ensures after { λ _. ⌜ words-of (now (self .exit))
+            ≡ written (words-of (now (self .entry))) home offset word ⌝ }
         ensures count { λ _. ⌜ words-of (now (self .exit)) .count ≡ words-of (now (self .entry)) .count ⌝ }
         ensures spare { λ _. ⌜ spare-of (now (self .exit)) ≡ spare-of (now (self .entry)) ⌝ }
     {
@@ -68,7 +70,8 @@ pub impl<'a> Memory for ByteMemory<'a> as ByteMemoryChange {
 
     fn add(&mut self, home: u64, offset: u64, by: u64) -> Result<u64, Refusal>
         ensures value { λ r. ⌜ r ≡ got (words-of (now (self .entry))) home offset ⌝ }
-        ensures after { λ _. ⌜ words-of (now (self .exit)) ≡ added (words-of (now (self .entry))) home offset by ⌝ }
+        ensures after { λ _. ⌜ words-of (now (self .exit))
+            ≡ added (words-of (now (self .entry))) home offset by ⌝ }
         ensures count { λ _. ⌜ words-of (now (self .exit)) .count ≡ words-of (now (self .entry)) .count ⌝ }
         ensures spare { λ _. ⌜ spare-of (now (self .exit)) ≡ spare-of (now (self .entry)) ⌝ }
     {
@@ -79,7 +82,8 @@ pub impl<'a> Memory for ByteMemory<'a> as ByteMemoryChange {
 
     fn cas(&mut self, home: u64, offset: u64, expected: u64, new: u64) -> Result<u64, Refusal>
         ensures value { λ r. ⌜ r ≡ got (words-of (now (self .entry))) home offset ⌝ }
-        ensures after { λ _. ⌜ words-of (now (self .exit)) ≡ exchanged (words-of (now (self .entry))) home offset expected new ⌝ }
+        ensures after { λ _. ⌜ words-of (now (self .exit))
+            ≡ exchanged (words-of (now (self .entry))) home offset expected new ⌝ }
         ensures count { λ _. ⌜ words-of (now (self .exit)) .count ≡ words-of (now (self .entry)) .count ⌝ }
         ensures spare { λ _. ⌜ spare-of (now (self .exit)) ≡ spare-of (now (self .entry)) ⌝ }
     {

@@ -6,10 +6,10 @@ ghost use lib.ListN.{length, take, drop};
 ghost use mathlib.Core.Path.{_≡_};
 
 /// A word has this many bytes.
-pub const WORD_BYTES: u64 = 8;
+pub(crate) const WORD_BYTES: u64 = 8;
 
 /// The word that the eight bytes from `at` on spell.
-pub fn load(bytes: &[u8], at: usize) -> u64
+pub(crate) fn load(bytes: &[u8], at: usize) -> u64
     requires { ⌜ at + 8 ≤ length (now bytes) ⌝ }
     ensures { λ r. ⌜ r ≡ be-word (now (bytes .entry)) at ⌝ }
 {
@@ -26,7 +26,7 @@ pub fn load(bytes: &[u8], at: usize) -> u64
 }
 
 /// Writes a word as the eight bytes from `at` on, and no other byte.
-pub fn store(bytes: &mut [u8], at: usize, word: u64)
+pub(crate) fn store(bytes: &mut [u8], at: usize, word: u64)
     requires { ⌜ at + 8 ≤ length (now bytes) ⌝ }
     ensures before { λ _. ⌜ take at (now (bytes .exit)) ≡ take at (now (bytes .entry)) ⌝ }
     ensures here { λ _. ⌜ be-word (now (bytes .exit)) at ≡ word ⌝ }

@@ -32,48 +32,32 @@ pub trait Memory: ReadMemory {
     /// Writes a word.
     fn put(&mut self, home: u64, offset: u64, word: u64) -> Result<(), Refusal>
         ensures value { λ r. ⌜ r ≡ accepted (Self·ReadMemory .words (now (self .entry))) home offset ⌝ }
-        ensures after {
-            λ _. ⌜ Self·ReadMemory .words (now (self .exit))
-                ≡ written (Self·ReadMemory .words (now (self .entry))) home offset word ⌝
-        }
-        ensures count {
-            λ _. ⌜ Self·ReadMemory .words (now (self .exit)) .count
-                ≡ Self·ReadMemory .words (now (self .entry)) .count ⌝
-        };
+        ensures after { λ _. ⌜ Self·ReadMemory .words (now (self .exit))
+            ≡ written (Self·ReadMemory .words (now (self .entry))) home offset word ⌝ }
+        ensures count { λ _. ⌜ Self·ReadMemory .words (now (self .exit)) .count
+            ≡ Self·ReadMemory .words (now (self .entry)) .count ⌝ };
 
     /// Writes a word, and answers the old one.
     fn swap(&mut self, home: u64, offset: u64, word: u64) -> Result<u64, Refusal>
         ensures value { λ r. ⌜ r ≡ got (Self·ReadMemory .words (now (self .entry))) home offset ⌝ }
-        ensures after {
-            λ _. ⌜ Self·ReadMemory .words (now (self .exit))
-                ≡ written (Self·ReadMemory .words (now (self .entry))) home offset word ⌝
-        }
-        ensures count {
-            λ _. ⌜ Self·ReadMemory .words (now (self .exit)) .count
-                ≡ Self·ReadMemory .words (now (self .entry)) .count ⌝
-        };
+        ensures after { λ _. ⌜ Self·ReadMemory .words (now (self .exit))
+            ≡ written (Self·ReadMemory .words (now (self .entry))) home offset word ⌝ }
+        ensures count { λ _. ⌜ Self·ReadMemory .words (now (self .exit)) .count
+            ≡ Self·ReadMemory .words (now (self .entry)) .count ⌝ };
 
     /// Adds to a word modulo 2^64, and answers the old one. A subtraction is an add.
     fn add(&mut self, home: u64, offset: u64, by: u64) -> Result<u64, Refusal>
         ensures value { λ r. ⌜ r ≡ got (Self·ReadMemory .words (now (self .entry))) home offset ⌝ }
-        ensures after {
-            λ _. ⌜ Self·ReadMemory .words (now (self .exit))
-                ≡ added (Self·ReadMemory .words (now (self .entry))) home offset by ⌝
-        }
-        ensures count {
-            λ _. ⌜ Self·ReadMemory .words (now (self .exit)) .count
-                ≡ Self·ReadMemory .words (now (self .entry)) .count ⌝
-        };
+        ensures after { λ _. ⌜ Self·ReadMemory .words (now (self .exit))
+            ≡ added (Self·ReadMemory .words (now (self .entry))) home offset by ⌝ }
+        ensures count { λ _. ⌜ Self·ReadMemory .words (now (self .exit)) .count
+            ≡ Self·ReadMemory .words (now (self .entry)) .count ⌝ };
 
     /// Writes `new` if the word equals `expected`, and answers the old word in either case.
     fn cas(&mut self, home: u64, offset: u64, expected: u64, new: u64) -> Result<u64, Refusal>
         ensures value { λ r. ⌜ r ≡ got (Self·ReadMemory .words (now (self .entry))) home offset ⌝ }
-        ensures after {
-            λ _. ⌜ Self·ReadMemory .words (now (self .exit))
-                ≡ exchanged (Self·ReadMemory .words (now (self .entry))) home offset expected new ⌝
-        }
-        ensures count {
-            λ _. ⌜ Self·ReadMemory .words (now (self .exit)) .count
-                ≡ Self·ReadMemory .words (now (self .entry)) .count ⌝
-        };
+        ensures after { λ _. ⌜ Self·ReadMemory .words (now (self .exit))
+            ≡ exchanged (Self·ReadMemory .words (now (self .entry))) home offset expected new ⌝ }
+        ensures count { λ _. ⌜ Self·ReadMemory .words (now (self .exit)) .count
+            ≡ Self·ReadMemory .words (now (self .entry)) .count ⌝ };
 }

@@ -17,16 +17,16 @@ pub struct JoinedMemory<P, Q> {
     second: Q,
 }
 
-/// The memory that a home of a joined memory lies in, and the home's number there.
+// The memory that a home of a joined memory lies in, and the home's number there.
 #[derive(Clone, Copy)]
-pub enum Side {
+enum Side {
     First(u64),
     Second(u64),
     Neither,
 }
 
-/// Where a home lies, if the first memory has `border` homes.
-pub fn locate(border: u64, home: u64) -> Side
+// Where a home lies, if the first memory has `border` homes.
+fn locate(border: u64, home: u64) -> Side
     ensures { λ r. ⌜ Lies border home r ⌝ }
 {
     if home > MAX_HOMES {
@@ -41,10 +41,8 @@ pub fn locate(border: u64, home: u64) -> Side
 impl<P: ReadMemory, Q: ReadMemory> JoinedMemory<P, Q> {
     /// The memory of all homes of two.
     pub fn new(first: P, second: Q) -> Self
-        ensures {
-            λ r. ⌜ words-of (P·ReadMemory .words) (Q·ReadMemory .words) r
-                ≡ joined-words (P·ReadMemory .words first) (Q·ReadMemory .words second) ⌝
-        }
+        ensures { λ r. ⌜ words-of (P·ReadMemory .words) (Q·ReadMemory .words) r
+            ≡ joined-words (P·ReadMemory .words first) (Q·ReadMemory .words second) ⌝ }
     {
         JoinedMemory { first, second }
     }
@@ -68,22 +66,15 @@ pub impl<P: ReadMemory, Q: ReadMemory> ReadMemory for JoinedMemory<P, Q> as Join
 
 pub impl<P: Memory, Q: Memory> Memory for JoinedMemory<P, Q> as JoinedMemoryChange {
     fn put(&mut self, home: u64, offset: u64, word: u64) -> Result<(), Refusal>
-        ensures value {
-            λ r. ⌜ r ≡ accepted (words-of (P·ReadMemory .words) (Q·ReadMemory .words) (now (self .entry))) home offset ⌝
-        }
-        ensures after {
-            λ _. ⌜ words-of (P·ReadMemory .words) (Q·ReadMemory .words) (now (self .exit))
-                ≡ written (words-of (P·ReadMemory .words) (Q·ReadMemory .words) (now (self .entry)))
-                    home offset word ⌝
-        }
-        ensures count {
-            λ _. ⌜ words-of (P·ReadMemory .words) (Q·ReadMemory .words) (now (self .exit)) .count
-                ≡ words-of (P·ReadMemory .words) (Q·ReadMemory .words) (now (self .entry)) .count ⌝
-        }
-        ensures spare {
-            λ _. ⌜ spare-of (P·ReadMemory .words) (Q·ReadMemory .words) (now (self .exit))
-                ≡ spare-of (P·ReadMemory .words) (Q·ReadMemory .words) (now (self .entry)) ⌝
-        }
+        ensures value { λ r. ⌜ r
+            ≡ accepted (words-of (P·ReadMemory .words) (Q·ReadMemory .words) (now (self .entry))) home offset ⌝ }
+        ensures after { λ _. ⌜ words-of (P·ReadMemory .words) (Q·ReadMemory .words) (now (self .exit))
+            ≡ written (words-of (P·ReadMemory .words) (Q·ReadMemory .words) (now (self .entry)))
+            home offset word ⌝ }
+        ensures count { λ _. ⌜ words-of (P·ReadMemory .words) (Q·ReadMemory .words) (now (self .exit)) .count
+            ≡ words-of (P·ReadMemory .words) (Q·ReadMemory .words) (now (self .entry)) .count ⌝ }
+        ensures spare { λ _. ⌜ spare-of (P·ReadMemory .words) (Q·ReadMemory .words) (now (self .exit))
+            ≡ spare-of (P·ReadMemory .words) (Q·ReadMemory .words) (now (self .entry)) ⌝ }
     {
         match locate(self.first.count(), home) {
             Side::First(near) => self.first.put(near, offset, word),
@@ -93,22 +84,15 @@ pub impl<P: Memory, Q: Memory> Memory for JoinedMemory<P, Q> as JoinedMemoryChan
     }
 
     fn swap(&mut self, home: u64, offset: u64, word: u64) -> Result<u64, Refusal>
-        ensures value {
-            λ r. ⌜ r ≡ got (words-of (P·ReadMemory .words) (Q·ReadMemory .words) (now (self .entry))) home offset ⌝
-        }
-        ensures after {
-            λ _. ⌜ words-of (P·ReadMemory .words) (Q·ReadMemory .words) (now (self .exit))
-                ≡ written (words-of (P·ReadMemory .words) (Q·ReadMemory .words) (now (self .entry)))
-                    home offset word ⌝
-        }
-        ensures count {
-            λ _. ⌜ words-of (P·ReadMemory .words) (Q·ReadMemory .words) (now (self .exit)) .count
-                ≡ words-of (P·ReadMemory .words) (Q·ReadMemory .words) (now (self .entry)) .count ⌝
-        }
-        ensures spare {
-            λ _. ⌜ spare-of (P·ReadMemory .words) (Q·ReadMemory .words) (now (self .exit))
-                ≡ spare-of (P·ReadMemory .words) (Q·ReadMemory .words) (now (self .entry)) ⌝
-        }
+        ensures value { λ r. ⌜ r
+            ≡ got (words-of (P·ReadMemory .words) (Q·ReadMemory .words) (now (self .entry))) home offset ⌝ }
+        ensures after { λ _. ⌜ words-of (P·ReadMemory .words) (Q·ReadMemory .words) (now (self .exit))
+            ≡ written (words-of (P·ReadMemory .words) (Q·ReadMemory .words) (now (self .entry)))
+            home offset word ⌝ }
+        ensures count { λ _. ⌜ words-of (P·ReadMemory .words) (Q·ReadMemory .words) (now (self .exit)) .count
+            ≡ words-of (P·ReadMemory .words) (Q·ReadMemory .words) (now (self .entry)) .count ⌝ }
+        ensures spare { λ _. ⌜ spare-of (P·ReadMemory .words) (Q·ReadMemory .words) (now (self .exit))
+            ≡ spare-of (P·ReadMemory .words) (Q·ReadMemory .words) (now (self .entry)) ⌝ }
     {
         match locate(self.first.count(), home) {
             Side::First(near) => self.first.swap(near, offset, word),
@@ -118,22 +102,15 @@ pub impl<P: Memory, Q: Memory> Memory for JoinedMemory<P, Q> as JoinedMemoryChan
     }
 
     fn add(&mut self, home: u64, offset: u64, by: u64) -> Result<u64, Refusal>
-        ensures value {
-            λ r. ⌜ r ≡ got (words-of (P·ReadMemory .words) (Q·ReadMemory .words) (now (self .entry))) home offset ⌝
-        }
-        ensures after {
-            λ _. ⌜ words-of (P·ReadMemory .words) (Q·ReadMemory .words) (now (self .exit))
-                ≡ added (words-of (P·ReadMemory .words) (Q·ReadMemory .words) (now (self .entry)))
-                    home offset by ⌝
-        }
-        ensures count {
-            λ _. ⌜ words-of (P·ReadMemory .words) (Q·ReadMemory .words) (now (self .exit)) .count
-                ≡ words-of (P·ReadMemory .words) (Q·ReadMemory .words) (now (self .entry)) .count ⌝
-        }
-        ensures spare {
-            λ _. ⌜ spare-of (P·ReadMemory .words) (Q·ReadMemory .words) (now (self .exit))
-                ≡ spare-of (P·ReadMemory .words) (Q·ReadMemory .words) (now (self .entry)) ⌝
-        }
+        ensures value { λ r. ⌜ r
+            ≡ got (words-of (P·ReadMemory .words) (Q·ReadMemory .words) (now (self .entry))) home offset ⌝ }
+        ensures after { λ _. ⌜ words-of (P·ReadMemory .words) (Q·ReadMemory .words) (now (self .exit))
+            ≡ added (words-of (P·ReadMemory .words) (Q·ReadMemory .words) (now (self .entry)))
+            home offset by ⌝ }
+        ensures count { λ _. ⌜ words-of (P·ReadMemory .words) (Q·ReadMemory .words) (now (self .exit)) .count
+            ≡ words-of (P·ReadMemory .words) (Q·ReadMemory .words) (now (self .entry)) .count ⌝ }
+        ensures spare { λ _. ⌜ spare-of (P·ReadMemory .words) (Q·ReadMemory .words) (now (self .exit))
+            ≡ spare-of (P·ReadMemory .words) (Q·ReadMemory .words) (now (self .entry)) ⌝ }
     {
         match locate(self.first.count(), home) {
             Side::First(near) => self.first.add(near, offset, by),
@@ -143,22 +120,15 @@ pub impl<P: Memory, Q: Memory> Memory for JoinedMemory<P, Q> as JoinedMemoryChan
     }
 
     fn cas(&mut self, home: u64, offset: u64, expected: u64, new: u64) -> Result<u64, Refusal>
-        ensures value {
-            λ r. ⌜ r ≡ got (words-of (P·ReadMemory .words) (Q·ReadMemory .words) (now (self .entry))) home offset ⌝
-        }
-        ensures after {
-            λ _. ⌜ words-of (P·ReadMemory .words) (Q·ReadMemory .words) (now (self .exit))
-                ≡ exchanged (words-of (P·ReadMemory .words) (Q·ReadMemory .words) (now (self .entry)))
-                    home offset expected new ⌝
-        }
-        ensures count {
-            λ _. ⌜ words-of (P·ReadMemory .words) (Q·ReadMemory .words) (now (self .exit)) .count
-                ≡ words-of (P·ReadMemory .words) (Q·ReadMemory .words) (now (self .entry)) .count ⌝
-        }
-        ensures spare {
-            λ _. ⌜ spare-of (P·ReadMemory .words) (Q·ReadMemory .words) (now (self .exit))
-                ≡ spare-of (P·ReadMemory .words) (Q·ReadMemory .words) (now (self .entry)) ⌝
-        }
+        ensures value { λ r. ⌜ r
+            ≡ got (words-of (P·ReadMemory .words) (Q·ReadMemory .words) (now (self .entry))) home offset ⌝ }
+        ensures after { λ _. ⌜ words-of (P·ReadMemory .words) (Q·ReadMemory .words) (now (self .exit))
+            ≡ exchanged (words-of (P·ReadMemory .words) (Q·ReadMemory .words) (now (self .entry)))
+            home offset expected new ⌝ }
+        ensures count { λ _. ⌜ words-of (P·ReadMemory .words) (Q·ReadMemory .words) (now (self .exit)) .count
+            ≡ words-of (P·ReadMemory .words) (Q·ReadMemory .words) (now (self .entry)) .count ⌝ }
+        ensures spare { λ _. ⌜ spare-of (P·ReadMemory .words) (Q·ReadMemory .words) (now (self .exit))
+            ≡ spare-of (P·ReadMemory .words) (Q·ReadMemory .words) (now (self .entry)) ⌝ }
     {
         match locate(self.first.count(), home) {
             Side::First(near) => self.first.cas(near, offset, expected, new),

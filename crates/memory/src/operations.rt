@@ -24,31 +24,32 @@ pub enum Operation {
 ///
 /// It answers what the operation answers; a put, which answers no word, gives 0. What get answers at
 /// every other home and offset stays as it was.
-pub fn perform<M: Memory>(memory: &mut M, home: u64, offset: u64, operation: Operation) -> Result<u64, Refusal>
-    ensures value {
-        λ r. ⌜ r ≡ answered (M·ReadMemory .words (now (memory .entry))) home offset operation ⌝
-    }
-    ensures after {
-        λ _. ⌜ M·ReadMemory .words (now (memory .exit))
-            ≡ performed (M·ReadMemory .words (now (memory .entry))) home offset operation ⌝
-    }
-    ensures local {
-        λ _. ⌜ Local (M·ReadMemory .words (now (memory .entry))) (M·ReadMemory .words (now (memory .exit)))
-            home offset ⌝
-    }
+pub fn perform<M: Memory>(
+    memory: &mut M,
+    home: u64,
+    offset: u64,
+    operation: Operation,
+) -> Result<u64, Refusal>
+    ensures value { λ r. ⌜ r ≡ answered (M·ReadMemory .words (now (memory .entry))) home offset operation ⌝ }
+    ensures after { λ _. ⌜ M·ReadMemory .words (now (memory .exit))
+        ≡ performed (M·ReadMemory .words (now (memory .entry))) home offset operation ⌝ }
+    ensures local { λ _. ⌜ Local (M·ReadMemory .words (now (memory .entry)))
+        (M·ReadMemory .words (now (memory .exit)))
+        home offset ⌝ }
 {
     dispatch(memory, home, offset, operation)
 }
 
 // Calls the method that the operation names.
-fn dispatch<M: Memory>(memory: &mut M, home: u64, offset: u64, operation: Operation) -> Result<u64, Refusal>
-    ensures value {
-        λ r. ⌜ r ≡ answered (M·ReadMemory .words (now (memory .entry))) home offset operation ⌝
-    }
-    ensures after {
-        λ _. ⌜ M·ReadMemory .words (now (memory .exit))
-            ≡ performed (M·ReadMemory .words (now (memory .entry))) home offset operation ⌝
-    }
+fn dispatch<M: Memory>(
+    memory: &mut M,
+    home: u64,
+    offset: u64,
+    operation: Operation,
+) -> Result<u64, Refusal>
+    ensures value { λ r. ⌜ r ≡ answered (M·ReadMemory .words (now (memory .entry))) home offset operation ⌝ }
+    ensures after { λ _. ⌜ M·ReadMemory .words (now (memory .exit))
+        ≡ performed (M·ReadMemory .words (now (memory .entry))) home offset operation ⌝ }
 {
     match operation {
         Operation::Get => memory.get(home, offset),

@@ -11,12 +11,11 @@ use crate::offsets::HOME_WORDS;
 use refusal::Refusal;
 
 /// The place of a word in the row of a memory of `count` homes, or the refusal.
-pub fn place(count: u64, home: u64, offset: u64) -> Result<u64, Refusal>
+pub(crate) fn place(count: u64, home: u64, offset: u64) -> Result<u64, Refusal>
     requires { ⌜ count ≤ 4096 ⌝ }
     ensures value { λ r. ⌜ r ≡ refusing count home offset Err (Ok (place-of home offset)) ⌝ }
-    ensures inside {
-        λ r. ⌜ made r (λ at. (0 < home) × (home ≤ count) × (offset ≤ 4) × (at ≡ place-of home offset)) ⌝
-    }
+    ensures inside { λ r. ⌜ made r
+        (λ at. (0 < home) × (home ≤ count) × (offset ≤ 4) × (at ≡ place-of home offset)) ⌝ }
 {
     if home == 0 || home > count {
         return Err(Refusal::UnknownHome);

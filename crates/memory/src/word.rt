@@ -42,7 +42,8 @@ pub impl<'a> ReadMemory for WordMemory<'a> as WordMemoryRead {
 pub impl<'a> Memory for WordMemory<'a> as WordMemoryChange {
     fn put(&mut self, home: u64, offset: u64, word: u64) -> Result<(), Refusal>
         ensures value { λ r. ⌜ r ≡ accepted (words-of (now (self .entry))) home offset ⌝ }
-        ensures after { λ _. ⌜ words-of (now (self .exit)) ≡ written (words-of (now (self .entry))) home offset word ⌝ }
+        ensures after { λ _. ⌜ words-of (now (self .exit))
+            ≡ written (words-of (now (self .entry))) home offset word ⌝ }
         ensures count { λ _. ⌜ words-of (now (self .exit)) .count ≡ words-of (now (self .entry)) .count ⌝ }
         ensures spare { λ _. ⌜ spare-of (now (self .exit)) ≡ spare-of (now (self .entry)) ⌝ }
     {
@@ -53,7 +54,8 @@ pub impl<'a> Memory for WordMemory<'a> as WordMemoryChange {
 
     fn swap(&mut self, home: u64, offset: u64, word: u64) -> Result<u64, Refusal>
         ensures value { λ r. ⌜ r ≡ got (words-of (now (self .entry))) home offset ⌝ }
-        ensures after { λ _. ⌜ words-of (now (self .exit)) ≡ written (words-of (now (self .entry))) home offset word ⌝ }
+        ensures after { λ _. ⌜ words-of (now (self .exit))
+            ≡ written (words-of (now (self .entry))) home offset word ⌝ }
         ensures count { λ _. ⌜ words-of (now (self .exit)) .count ≡ words-of (now (self .entry)) .count ⌝ }
         ensures spare { λ _. ⌜ spare-of (now (self .exit)) ≡ spare-of (now (self .entry)) ⌝ }
     {
@@ -64,7 +66,8 @@ pub impl<'a> Memory for WordMemory<'a> as WordMemoryChange {
 
     fn add(&mut self, home: u64, offset: u64, by: u64) -> Result<u64, Refusal>
         ensures value { λ r. ⌜ r ≡ got (words-of (now (self .entry))) home offset ⌝ }
-        ensures after { λ _. ⌜ words-of (now (self .exit)) ≡ added (words-of (now (self .entry))) home offset by ⌝ }
+        ensures after { λ _. ⌜ words-of (now (self .exit))
+            ≡ added (words-of (now (self .entry))) home offset by ⌝ }
         ensures count { λ _. ⌜ words-of (now (self .exit)) .count ≡ words-of (now (self .entry)) .count ⌝ }
         ensures spare { λ _. ⌜ spare-of (now (self .exit)) ≡ spare-of (now (self .entry)) ⌝ }
     {
@@ -75,7 +78,8 @@ pub impl<'a> Memory for WordMemory<'a> as WordMemoryChange {
 
     fn cas(&mut self, home: u64, offset: u64, expected: u64, new: u64) -> Result<u64, Refusal>
         ensures value { λ r. ⌜ r ≡ got (words-of (now (self .entry))) home offset ⌝ }
-        ensures after { λ _. ⌜ words-of (now (self .exit)) ≡ exchanged (words-of (now (self .entry))) home offset expected new ⌝ }
+        ensures after { λ _. ⌜ words-of (now (self .exit))
+            ≡ exchanged (words-of (now (self .entry))) home offset expected new ⌝ }
         ensures count { λ _. ⌜ words-of (now (self .exit)) .count ≡ words-of (now (self .entry)) .count ⌝ }
         ensures spare { λ _. ⌜ spare-of (now (self .exit)) ≡ spare-of (now (self .entry)) ⌝ }
     {

@@ -4,11 +4,11 @@ use Rattle.memory.proofs.operations.perform.Needs as need
 
 pub returns : need.returns
 returns g c =
+    let before = g .M·ReadMemory .words (c .args .memory .now) in
+    let after = g .M·ReadMemory .words (c .dispatch .last .memory) in
     let e = c .dispatch .ensures in
-    record
-      { value = e .value
-      ; after = e .after
-      ; local =
-          local-after (g .M·ReadMemory .words (c .args .memory .now)) (g .M·ReadMemory .words (c .dispatch .last .memory))
-            (c .args .home) (c .args .offset) (c .args .operation) (e .after)
-      }
+    record {
+      value = e .value;
+      after = e .after;
+      local = local-after before after (c .args .home) (c .args .offset) (c .args .operation) (e .after);
+    }

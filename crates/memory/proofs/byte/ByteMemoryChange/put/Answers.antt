@@ -18,8 +18,8 @@ returns c =
     let e = c .store .ensures in
     let n = c .count .ensures .value in
     let s : Stored xs ys (8 * place-of home offset) word =
-          subst (λ (k : ℕ). Stored xs ys (8 * k) word) (i .3)
-            (record { long = c .store .kept .bytes; before = e .before; here = e .here; behind = e .behind }) in
+    subst (λ (k : ℕ). Stored xs ys (8 * k) word) (i .3)
+    (record { long = c .store .kept .bytes; before = e .before; here = e .here; behind = e .behind }) in
     let t = bytes-set xs ys home offset word (i .0) (omega arith) (i .2) s in
     let u = bytes-spare xs ys (8 * place-of home offset) word s (omega arith) in
     search needs

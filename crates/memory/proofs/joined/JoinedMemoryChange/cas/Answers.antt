@@ -14,6 +14,7 @@ returns-in-Second g c =
     let offset = c .args .offset in
     let f = c .in-Second .ensures tt in
     let s : Second a home far = record { is = omega arith; past = omega arith; within = omega arith } in
-    let t = exchanged-second a b z home far offset (c .args .expected) (c .args .new) s (c .cas-in-Second .ensures .after) in
+    let e = c .cas-in-Second .ensures .after in
+    let t = exchanged-second a b z home far offset (c .args .expected) (c .args .new) s e in
     let u = got-second a b home far offset s in
     search needs
