@@ -24,7 +24,8 @@ pub struct ByteMemory<'a> {
 impl<'a> ByteMemory<'a> {
     /// The memory over a window.
     pub fn new(window: &'a mut [u8]) -> Self
-        ensures { λ r. ⌜ words-of r ≡ byte-words (now (window .entry)) ⌝ }
+        ensures words { λ r. ⌜ words-of r ≡ byte-words (now (window .entry)) ⌝ }
+        ensures window { λ r. ⌜ now (r .window) ≡ now (window .entry) ⌝ }
     {
         ByteMemory { window }
     }

@@ -41,8 +41,9 @@ fn locate(border: u64, home: u64) -> Side
 impl<P: ReadMemory, Q: ReadMemory> JoinedMemory<P, Q> {
     /// The memory of all homes of two.
     pub fn new(first: P, second: Q) -> Self
-        ensures { λ r. ⌜ words-of (P·ReadMemory .words) (Q·ReadMemory .words) r
+        ensures words { λ r. ⌜ words-of (P·ReadMemory .words) (Q·ReadMemory .words) r
             ≡ joined-words (P·ReadMemory .words first) (Q·ReadMemory .words second) ⌝ }
+        ensures parts { λ r. ⌜ r .first ≡ first ⌝ ∗ ⌜ r .second ≡ second ⌝ }
     {
         JoinedMemory { first, second }
     }

@@ -20,7 +20,8 @@ pub struct WordMemory<'a> {
 impl<'a> WordMemory<'a> {
     /// The memory over a table.
     pub fn new(table: &'a mut [u64]) -> Self
-        ensures { λ r. ⌜ words-of r ≡ table-words (now (table .entry)) ⌝ }
+        ensures words { λ r. ⌜ words-of r ≡ table-words (now (table .entry)) ⌝ }
+        ensures table { λ r. ⌜ now (r .table) ≡ now (table .entry) ⌝ }
     {
         WordMemory { table }
     }
