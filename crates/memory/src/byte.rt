@@ -2,7 +2,8 @@
 
 ghost use Rattle.memory.specs.Layout.{byte-words};
 ghost use Rattle.memory.specs.Windows.{words-of, spare-of};
-ghost use Rattle.memory.specs.Words.{accepted, written, got, added, exchanged};
+ghost use Rattle.memory.specs.Words.{got, accepted, written, added, exchanged};
+ghost use denote.Ref.{name};
 ghost use mathlib.Core.Path.{_≡_};
 use crate::endian::WORD_BYTES;
 use crate::endian::load;
@@ -14,18 +15,20 @@ use crate::offsets::MAX_HOMES;
 use crate::place::place;
 use refusal::Refusal;
 
-/// A caller's window of bytes. A word is eight bytes, the most significant first, and a home 40 bytes:
-/// the homes are the whole forties of the window, at most 4,096 of them.
+/// A memory over a caller's window: each eight bytes are a word, the most significant byte first, and
+/// each 40 bytes are a home, for at most 4,096 homes.
+///
+/// Bytes that fill no home, or lie beyond the last one, are never touched.
 #[derive(Drop)]
 pub struct ByteMemory<'a> {
     window: &'a mut [u8],
 }
 
 impl<'a> ByteMemory<'a> {
-    /// The memory over a window.
+    /// The memory of the words that a window's bytes spell.
     pub fn new(window: &'a mut [u8]) -> Self
         ensures words { λ r. ⌜ words-of r ≡ byte-words (now (window .entry)) ⌝ }
-        ensures window { λ r. ⌜ now (r .window) ≡ now (window .entry) ⌝ }
+        ensures window { λ r. ⌜ now (r .window) ≡ now (window .entry) ⌝ ∗ ⌜ name (r .window) ≡ name (window .entry) ⌝ }
     {
         ByteMemory { window }
     }
@@ -51,6 +54,7 @@ pub impl<'a> Memory for ByteMemory<'a> as ByteMemoryChange {
             ≡ written (words-of (now (self .entry))) home offset word ⌝ }
         ensures count { λ _. ⌜ words-of (now (self .exit)) .count ≡ words-of (now (self .entry)) .count ⌝ }
         ensures spare { λ _. ⌜ spare-of (now (self .exit)) ≡ spare-of (now (self .entry)) ⌝ }
+        ensures window { λ _. ⌜ name (now (self .exit) .window) ≡ name (now (self .entry) .window) ⌝ }
     {
         let at = place(self.count(), home, offset)?;
         store(self.window, (WORD_BYTES * at) as usize, word);
@@ -63,6 +67,7 @@ pub impl<'a> Memory for ByteMemory<'a> as ByteMemoryChange {
             ≡ written (words-of (now (self .entry))) home offset word ⌝ }
         ensures count { λ _. ⌜ words-of (now (self .exit)) .count ≡ words-of (now (self .entry)) .count ⌝ }
         ensures spare { λ _. ⌜ spare-of (now (self .exit)) ≡ spare-of (now (self .entry)) ⌝ }
+        ensures window { λ _. ⌜ name (now (self .exit) .window) ≡ name (now (self .entry) .window) ⌝ }
     {
         let old = self.get(home, offset)?;
         self.put(home, offset, word)?;
@@ -75,6 +80,7 @@ pub impl<'a> Memory for ByteMemory<'a> as ByteMemoryChange {
             ≡ added (words-of (now (self .entry))) home offset by ⌝ }
         ensures count { λ _. ⌜ words-of (now (self .exit)) .count ≡ words-of (now (self .entry)) .count ⌝ }
         ensures spare { λ _. ⌜ spare-of (now (self .exit)) ≡ spare-of (now (self .entry)) ⌝ }
+        ensures window { λ _. ⌜ name (now (self .exit) .window) ≡ name (now (self .entry) .window) ⌝ }
     {
         let old = self.get(home, offset)?;
         self.put(home, offset, old.wrapping_add(by))?;
@@ -87,6 +93,7 @@ pub impl<'a> Memory for ByteMemory<'a> as ByteMemoryChange {
             ≡ exchanged (words-of (now (self .entry))) home offset expected new ⌝ }
         ensures count { λ _. ⌜ words-of (now (self .exit)) .count ≡ words-of (now (self .entry)) .count ⌝ }
         ensures spare { λ _. ⌜ spare-of (now (self .exit)) ≡ spare-of (now (self .entry)) ⌝ }
+        ensures window { λ _. ⌜ name (now (self .exit) .window) ≡ name (now (self .entry) .window) ⌝ }
     {
         let old = self.get(home, offset)?;
         if old == expected {

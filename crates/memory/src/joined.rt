@@ -3,7 +3,6 @@
 ghost use Rattle.memory.specs.Joins.{Lies, words-of, spare-of};
 ghost use Rattle.memory.specs.Layout.{joined-words};
 ghost use Rattle.memory.specs.Words.{got, accepted, written, added, exchanged};
-ghost use Prim.Native.Nat.{_≤_};
 ghost use mathlib.Core.Path.{_≡_};
 use crate::interface::Memory;
 use crate::interface::ReadMemory;
@@ -39,7 +38,7 @@ fn locate(border: u64, home: u64) -> Side
 }
 
 impl<P: ReadMemory, Q: ReadMemory> JoinedMemory<P, Q> {
-    /// The memory of all homes of two.
+    /// The memory of the homes of both.
     pub fn new(first: P, second: Q) -> Self
         ensures words { λ r. ⌜ words-of (P·ReadMemory .words) (Q·ReadMemory .words) r
             ≡ joined-words (P·ReadMemory .words first) (Q·ReadMemory .words second) ⌝ }

@@ -6,17 +6,17 @@ pub const MAX_HOMES: u64 = 4096;
 /// A home has this many words.
 pub const HOME_WORDS: u64 = 5;
 
-/// The word that names the next node of a queue.
+/// The offset of a home's first word.
 pub const NEXT: u64 = 0;
 
-/// The word that a waiting node watches.
+/// The offset of its second word.
 pub const STATUS: u64 = 1;
 
-/// The word that names the last node of a queue.
+/// The offset of its third word.
 pub const TAIL: u64 = 2;
 
-/// The word that counts readers as they arrive.
+/// The offset of its fourth word.
 pub const ARRIVE: u64 = 3;
 
-/// The word that counts readers as they depart.
+/// The offset of its last word.
 pub const DEPART: u64 = 4;

@@ -1,6 +1,6 @@
 //! Where the word of a home and an offset stands in a row of words, five to a home.
 
-ghost use Prim.Native.Nat.{_+_, _*_, _<_, _≤_};
+ghost use Prim.Native.Nat.{_<_, _≤_};
 ghost use Rattle.memory.specs.Layout.{place-of};
 ghost use Rattle.memory.specs.Words.{refusing};
 ghost use Rattle.std.specs.Vec.{made};

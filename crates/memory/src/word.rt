@@ -2,7 +2,8 @@
 
 ghost use Rattle.memory.specs.Layout.{table-words};
 ghost use Rattle.memory.specs.Tables.{words-of, spare-of};
-ghost use Rattle.memory.specs.Words.{accepted, written, got, added, exchanged};
+ghost use Rattle.memory.specs.Words.{got, accepted, written, added, exchanged};
+ghost use denote.Ref.{name};
 ghost use mathlib.Core.Path.{_≡_};
 use crate::interface::Memory;
 use crate::interface::ReadMemory;
@@ -11,17 +12,19 @@ use crate::offsets::MAX_HOMES;
 use crate::place::place;
 use refusal::Refusal;
 
-/// A caller's table of words. Its homes are the whole fives of the table, at most 4,096 of them.
+/// A memory over a caller's table: each five words are a home, for at most 4,096 homes.
+///
+/// Words that fill no home, or lie beyond the last one, are never touched.
 #[derive(Drop)]
 pub struct WordMemory<'a> {
     table: &'a mut [u64],
 }
 
 impl<'a> WordMemory<'a> {
-    /// The memory over a table.
+    /// The memory of a table's words.
     pub fn new(table: &'a mut [u64]) -> Self
         ensures words { λ r. ⌜ words-of r ≡ table-words (now (table .entry)) ⌝ }
-        ensures table { λ r. ⌜ now (r .table) ≡ now (table .entry) ⌝ }
+        ensures table { λ r. ⌜ now (r .table) ≡ now (table .entry) ⌝ ∗ ⌜ name (r .table) ≡ name (table .entry) ⌝ }
     {
         WordMemory { table }
     }
@@ -47,6 +50,7 @@ pub impl<'a> Memory for WordMemory<'a> as WordMemoryChange {
             ≡ written (words-of (now (self .entry))) home offset word ⌝ }
         ensures count { λ _. ⌜ words-of (now (self .exit)) .count ≡ words-of (now (self .entry)) .count ⌝ }
         ensures spare { λ _. ⌜ spare-of (now (self .exit)) ≡ spare-of (now (self .entry)) ⌝ }
+        ensures table { λ _. ⌜ name (now (self .exit) .table) ≡ name (now (self .entry) .table) ⌝ }
     {
         let at = place(self.count(), home, offset)?;
         self.table[at as usize] = word;
@@ -59,6 +63,7 @@ pub impl<'a> Memory for WordMemory<'a> as WordMemoryChange {
             ≡ written (words-of (now (self .entry))) home offset word ⌝ }
         ensures count { λ _. ⌜ words-of (now (self .exit)) .count ≡ words-of (now (self .entry)) .count ⌝ }
         ensures spare { λ _. ⌜ spare-of (now (self .exit)) ≡ spare-of (now (self .entry)) ⌝ }
+        ensures table { λ _. ⌜ name (now (self .exit) .table) ≡ name (now (self .entry) .table) ⌝ }
     {
         let old = self.get(home, offset)?;
         self.put(home, offset, word)?;
@@ -71,6 +76,7 @@ pub impl<'a> Memory for WordMemory<'a> as WordMemoryChange {
             ≡ added (words-of (now (self .entry))) home offset by ⌝ }
         ensures count { λ _. ⌜ words-of (now (self .exit)) .count ≡ words-of (now (self .entry)) .count ⌝ }
         ensures spare { λ _. ⌜ spare-of (now (self .exit)) ≡ spare-of (now (self .entry)) ⌝ }
+        ensures table { λ _. ⌜ name (now (self .exit) .table) ≡ name (now (self .entry) .table) ⌝ }
     {
         let old = self.get(home, offset)?;
         self.put(home, offset, old.wrapping_add(by))?;
@@ -83,6 +89,7 @@ pub impl<'a> Memory for WordMemory<'a> as WordMemoryChange {
             ≡ exchanged (words-of (now (self .entry))) home offset expected new ⌝ }
         ensures count { λ _. ⌜ words-of (now (self .exit)) .count ≡ words-of (now (self .entry)) .count ⌝ }
         ensures spare { λ _. ⌜ spare-of (now (self .exit)) ≡ spare-of (now (self .entry)) ⌝ }
+        ensures table { λ _. ⌜ name (now (self .exit) .table) ≡ name (now (self .entry) .table) ⌝ }
     {
         let old = self.get(home, offset)?;
         if old == expected {

@@ -1,4 +1,5 @@
-//! Tests of the three memories: one list of operations, and the borders of a memory's size.
+//! Tests of the three memories, and what a caller of another crate can promise by their contracts.
 
+mod caller;
 #[cfg(test)]
 mod tests;
