@@ -6,7 +6,7 @@ use crate::interface::Memory;
 use refusal::Refusal;
 
 /// One of the five operations on a word, with its operands.
-#[derive(Clone, Copy, PartialEq, Eq, Debug)]
+#[derive(Clone, Copy)]
 pub enum Operation {
     /// Answers the word.
     Get,
