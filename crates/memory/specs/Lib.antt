@@ -1,0 +1,7 @@
+pub mod Sizes
+pub mod Words
+pub mod Layout
+pub mod Tables
+pub mod Windows
+pub mod Joins
+pub mod Operations

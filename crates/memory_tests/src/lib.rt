@@ -1,0 +1,5 @@
+//! Tests of the three memories, and what a caller of another crate can promise by their contracts.
+
+mod caller;
+#[cfg(test)]
+mod tests;
