@@ -1,0 +1,5 @@
+pub mod Standings
+pub mod Records
+pub mod Words
+pub mod Table
+pub mod Touches
