@@ -1,0 +1,131 @@
+-- From places and words to phases: what a row changes of the view.
+use Prim.Native.Nat.{ℕ, zero, suc, pred, _+_, _^_, _≤_, _<_}
+use mathlib.Core.Path.{_≡_, refl, sym, _∙_, ap, subst}
+use mathlib.Core.Logic.{_⊎_, inl, inr, _≢_, ⊎-elim}
+use mathlib.Core.Bool.{Bool, true, false, cond}
+use lib.Dec.{eqb, leb}
+use native.Mathlib.Omega.{arith}
+use Rattle.std.proofs.shelf.Tests.{cases-eq, eq-eqb, ne-eqb, le-leb, lt-leb}
+use Rattle.queues.specs.Machine.{Tree, Lawful, On, Phase, out, fresh, clean, ready, link, wait, hold, give, level, InRange, State, Inv}
+use Rattle.queues.specs.Rows.{Place, idle, W1, W2, W3, W4, W5, W6, W7, W8, W9, U1, U2, U3, U4, U5, U6, U7, U8, U9, U10, R1, R2, R3, R4, R5, R6, R7, writes, reads, WAIT, tell, Plan, Lock, upd, phaseOf, at-level, phase, view, Counts, Sound, Fine}
+use Rattle.queues.proofs.Base.{one-owner}
+use Rattle.queues.proofs.Split.{split}
+
+pub upd-same : {A : Type 0} (f : ℕ → A) (a : ℕ) (v : A) → upd f a v a ≡ v
+unfolding upd
+upd-same f a v = rw (eq-eqb a a refl)
+
+pub upd-other : {A : Type 0} (f : ℕ → A) (a : ℕ) (v : A) (b : ℕ) → b ≢ a → upd f a v b ≡ f b
+unfolding upd
+upd-other f a v b h = rw (ne-eqb b a h)
+
+-- THE FRAME: states with the same values have the same invariant
+pub framed : (T : Tree) (s s′ : State) → ((p : ℕ) → s .ph p ≡ s′ .ph p) → ((h : ℕ) → s .nx h ≡ s′ .nx h) → ((k : ℕ) → s .tl k ≡ s′ .tl k) → ((k a : ℕ) → s .at k a ≡ s′ .at k a) → ((k : ℕ) → s .lo k ≡ s′ .lo k) → ((k : ℕ) → s .hi k ≡ s′ .hi k) → Inv T s → Inv T s′
+framed T s s′ a b c d e f v = subst (Inv T) (λ i. record { ph = λ p. a p i; nx = λ h. b h i; tl = λ k. c k i; at = λ k n. d k n i; lo = λ k. e k i; hi = λ k. f k i }) v
+
+-- a phase reads a word at W5 alone
+pub phase-same : (f : Place) (w w′ : ℕ) → ((j : ℕ) → f ≡ W5 j → w′ ≡ w) → phaseOf f w′ ≡ phaseOf f w
+phase-same (W5 j) w w′ e = ap (phaseOf (W5 j)) (e j refl)
+phase-same idle w w′ e = refl
+phase-same (W1 i) w w′ e = refl
+phase-same (W2 i) w w′ e = refl
+phase-same (W3 i) w w′ e = refl
+phase-same (W4 i t) w w′ e = refl
+phase-same (W6 i) w w′ e = refl
+phase-same (W7 n) w w′ e = refl
+phase-same (W8 n) w w′ e = refl
+phase-same (W9 n a) w w′ e = refl
+phase-same (U1 i) w w′ e = refl
+phase-same (U2 i n) w w′ e = refl
+phase-same (U3 i t n) w w′ e = refl
+phase-same U4 w w′ e = refl
+phase-same (U5 n) w w′ e = refl
+phase-same (U6 n) w w′ e = refl
+phase-same (U7 n a) w w′ e = refl
+phase-same (U8 i) w w′ e = refl
+phase-same (U9 i t) w w′ e = refl
+phase-same (U10 i) w w′ e = refl
+phase-same R1 w w′ e = refl
+phase-same R2 w w′ e = refl
+phase-same R3 w w′ e = refl
+phase-same R4 w w′ e = refl
+phase-same R5 w w′ e = refl
+phase-same (R6 n) w w′ e = refl
+phase-same R7 w w′ e = refl
+phase-same writes w w′ e = refl
+phase-same reads w w′ e = refl
+
+-- the three phases of W5
+pub w5-wait : (i w : ℕ) → w ≡ WAIT → phaseOf (W5 i) w ≡ wait i
+w5-wait i w e = rw (eq-eqb w WAIT e)
+
+pub w5-count : (i w : ℕ) → w ≤ 1000 → phaseOf (W5 i) w ≡ hold 1
+w5-count i w e = rw (ne-eqb w WAIT (omega arith), le-leb w 1000 e)
+
+pub w5-told : (i w : ℕ) → w ≢ WAIT → 1000 < w → phaseOf (W5 i) w ≡ hold i
+w5-told i w e h = rw (ne-eqb w WAIT e, lt-leb w 1000 h)
+
+pub tell-big : (i : ℕ) → (WAIT < tell i) × (1000 < tell i)
+tell-big i = ⊎-elim (λ (z : i ≡ 1). rw (eq-eqb i 1 z) (omega arith)) (λ (z : i ≡ 1 → ⊥). rw (ne-eqb i 1 z) (omega arith)) (cases-eq i 1)
+
+-- at W5 a rank holds all below
+w5-levels : (top i : ℕ) (a b : Bool) → level top (cond a (wait i) (cond b (hold 1) (hold i))) ≤ suc i
+w5-levels top i true b = omega arith
+w5-levels top i false true = omega arith
+w5-levels top i false false = omega arith
+
+pub w5-level : (top i w : ℕ) → level top (phaseOf (W5 i) w) ≤ suc i
+w5-level top i w = w5-levels top i (eqb w WAIT) (leb w 1000)
+
+module _ (L : Plan) (small : (q j : ℕ) → L .cap q j ≤ 1000) (st st′ : ℕ → ℕ) (q : ℕ) where
+  -- the statuses that a rank's place speaks of are as they were
+  abbrev Same : ℕ → Type 0
+  Same h = (j : ℕ) → On (L .tree .top q) j → h ≤ suc j → st′ (L .tree .node q j) ≡ st (L .tree .node q j)
+
+  counts-same : (h from : ℕ) → h ≤ suc from → 1 ≤ from → Same h → Counts L st q from → Counts L st′ q from
+  counts-same h from l o e c j a b = rw (e j (omega arith) (omega arith)) (c j a b)
+
+  sound-w5 : (i : ℕ) → Same (level (L .tree .top q) (phaseOf (W5 i) (st (L .tree .node q i)))) → Sound L st q (W5 i) → Sound L st′ q (W5 i)
+  sound-w5 i e c = (c .0, counts-same (level (L .tree .top q) (phaseOf (W5 i) w)) (suc i) (omega (arith, lv)) (omega arith) e (c .1), by (c .2))
+    where
+      w : ℕ
+      w = st (L .tree .node q i)
+
+      lv : level (L .tree .top q) (phaseOf (W5 i) w) ≤ suc i
+      lv = w5-level (L .tree .top q) i w
+
+      by : (w ≡ WAIT) ⊎ ((w ≡ tell i) ⊎ Counts L st q 1) → (st′ (L .tree .node q i) ≡ WAIT) ⊎ ((st′ (L .tree .node q i) ≡ tell i) ⊎ Counts L st′ q 1)
+      by (inl z) = inl (e i (c .0) lv ∙ z)
+      by (inr (inl z)) = inr (inl (e i (c .0) lv ∙ z))
+      by (inr (inr z)) = let one : level (L .tree .top q) (phaseOf (W5 i) w) ≡ 1 = ap (level (L .tree .top q)) (w5-count i w (omega (arith, z i (c .0 .from) (c .0 .upto), small i))) in inr (inr (counts-same (level (L .tree .top q) (phaseOf (W5 i) w)) 1 (omega arith) (omega arith) e z))
+
+  pub sound-same : (f : Place) → Same (level (L .tree .top q) (phaseOf f (st (L .tree .node q (at-level f))))) → Sound L st q f → InRange (L .tree .top q) (phaseOf f (st (L .tree .node q (at-level f)))) → Sound L st′ q f
+  sound-same idle e c o = tt
+  sound-same (W1 i) e c o = counts-same (suc i) (suc i) (omega arith) (omega arith) e c
+  sound-same (W2 i) e c o = counts-same (suc i) (suc i) (omega arith) (omega arith) e c
+  sound-same (W3 i) e c o = (e i o (omega arith) ∙ c .0, counts-same (suc i) (suc i) (omega arith) (omega arith) e (c .1))
+  sound-same (W4 i t) e c o = (e i o (omega arith) ∙ c .0, counts-same (suc i) (suc i) (omega arith) (omega arith) e (c .1))
+  sound-same (W5 i) e c o = sound-w5 i e c
+  sound-same (W6 i) e c o = counts-same i (suc i) (omega arith) (omega arith) e c
+  sound-same (W7 n) e c o = counts-same 1 1 (omega arith) (omega arith) e c
+  sound-same (W8 n) e c o = counts-same 1 1 (omega arith) (omega arith) e c
+  sound-same (W9 n a) e c o = counts-same 1 1 (omega arith) (omega arith) e c
+  sound-same (U1 i) e c o = (c .0, c .1, counts-same 1 1 (omega arith) (omega arith) e (c .2))
+  sound-same (U2 i n) e c o = (c .0, c .1, counts-same 1 1 (omega arith) (omega arith) e (c .2))
+  sound-same (U3 i t n) e c o = (c .0, counts-same 1 1 (omega arith) (omega arith) e (c .1))
+  sound-same U4 e c o = counts-same 1 1 (omega arith) (omega arith) e c
+  sound-same (U5 n) e c o = counts-same 1 1 (omega arith) (omega arith) e c
+  sound-same (U6 n) e c o = counts-same 1 1 (omega arith) (omega arith) e c
+  sound-same (U7 n a) e c o = counts-same 1 1 (omega arith) (omega arith) e c
+  sound-same (U8 i) e c o = tt
+  sound-same (U9 i t) e c o = tt
+  sound-same (U10 i) e c o = tt
+  sound-same R1 e c o = tt
+  sound-same R2 e c o = tt
+  sound-same R3 e c o = tt
+  sound-same R4 e c o = tt
+  sound-same R5 e c o = tt
+  sound-same (R6 n) e c o = tt
+  sound-same R7 e c o = tt
+  sound-same writes e c o = counts-same 1 1 (omega arith) (omega arith) e c
+  sound-same reads e c o = tt

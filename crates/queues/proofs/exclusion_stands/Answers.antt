@@ -1,0 +1,5 @@
+use Rattle.queues.proofs.Whole.{exclusion}
+use Rattle.queues.proofs.exclusion_stands.Needs as need
+
+pub returns : need.returns
+returns c = exclusion

@@ -1,0 +1,5 @@
+use Rattle.queues.proofs.Rest.{way-back}
+use Rattle.queues.proofs.way_back_stands.Needs as need
+
+pub returns : need.returns
+returns c = way-back

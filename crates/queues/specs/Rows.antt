@@ -1,0 +1,229 @@
+-- The table of places as a function, over words given as functions.
+use Prim.Native.Nat.{ℕ, zero, suc, pred, _+_, _-_, _^_, _≤_, _<_}
+use mathlib.Core.Path.{_≡_}
+use mathlib.Core.Logic.{_⊎_, _≢_}
+use mathlib.Core.Bool.{Bool, true, false, cond}
+use lib.Dec.{eqb, leb, ltb}
+use Rattle.queues.specs.Machine.{Tree, On, Phase, out, fresh, clean, ready, link, wait, hold, give, State, Inv}
+
+pub use Rattle.places.specs.declared.place.Place.{Place}
+pub use Rattle.places.specs.declared.place.Place.the-variants.{Idle as idle, W1, W2, W3, W4, W5, W6, W7, W8, W9, U1, U2, U3, U4, U5, U6, U7, U8, U9, U10, R1, R2, R3, R4, R5, R6, R7, Writer as writes, Reader as reads}
+
+abbrev pub WAIT : ℕ
+WAIT = 2 ^ 32
+
+-- PARENT, or MODE at level 1
+abbrev pub tell : ℕ → ℕ
+tell i = cond (eqb i 1) (2 ^ 32 + 2) (2 ^ 32 + 1)
+
+-- the tree, and the numbers of a plan
+pub record Plan : Type 0 where
+  pub tree : Tree
+  pub counters : ℕ
+  pub TR : ℕ
+  pub cap : ℕ → ℕ → ℕ
+  pub home : ℕ → ℕ
+
+-- records and words; TAIL is by element, ARRIVE and DEPART by counter; and the ghost history
+pub record Lock : Type 0 where
+  pub place : ℕ → Place
+  pub nx : ℕ → ℕ
+  pub st : ℕ → ℕ
+  pub tl : ℕ → ℕ
+  pub ar : ℕ → ℕ
+  pub de : ℕ → ℕ
+  pub at : ℕ → ℕ → ℕ
+  pub lo : ℕ → ℕ
+  pub hi : ℕ → ℕ
+
+unfoldable pub upd : {A : Type 0} → (ℕ → A) → ℕ → A → ℕ → A
+upd f a v b = cond (eqb b a) v (f b)
+
+abbrev pub go : Lock → ℕ → Place → Lock
+go s p f = record { place = upd (s .place) p f; nx = s .nx; st = s .st; tl = s .tl; ar = s .ar; de = s .de; at = s .at; lo = s .lo; hi = s .hi }
+
+abbrev pub put-nx : Lock → ℕ → ℕ → Lock
+put-nx s h v = record { place = s .place; nx = upd (s .nx) h v; st = s .st; tl = s .tl; ar = s .ar; de = s .de; at = s .at; lo = s .lo; hi = s .hi }
+
+abbrev pub put-st : Lock → ℕ → ℕ → Lock
+put-st s h v = record { place = s .place; nx = s .nx; st = upd (s .st) h v; tl = s .tl; ar = s .ar; de = s .de; at = s .at; lo = s .lo; hi = s .hi }
+
+-- W3: the node x joins the queue k
+abbrev pub join : Lock → ℕ → ℕ → Lock
+join s k x = record { place = s .place; nx = s .nx; st = s .st; tl = upd (s .tl) k x; ar = s .ar; de = s .de; at = upd (s .at) k (upd (s .at k) (s .hi k) x); lo = s .lo; hi = upd (s .hi) k (suc (s .hi k)) }
+
+-- the head of the queue k goes
+abbrev pub drop : Lock → ℕ → Lock
+drop s k = record { place = s .place; nx = s .nx; st = s .st; tl = s .tl; ar = s .ar; de = s .de; at = s .at; lo = upd (s .lo) k (suc (s .lo k)); hi = s .hi }
+
+-- and nothing is left
+abbrev pub free : Lock → ℕ → Lock
+free s k = record { place = s .place; nx = s .nx; st = s .st; tl = upd (s .tl) k 0; ar = s .ar; de = s .de; at = s .at; lo = upd (s .lo) k (suc (s .lo k)); hi = s .hi }
+
+abbrev pub put-ar : Lock → ℕ → ℕ → Lock
+put-ar s c v = record { place = s .place; nx = s .nx; st = s .st; tl = s .tl; ar = upd (s .ar) c v; de = s .de; at = s .at; lo = s .lo; hi = s .hi }
+
+abbrev pub put-de : Lock → ℕ → ℕ → Lock
+put-de s c v = record { place = s .place; nx = s .nx; st = s .st; tl = s .tl; ar = s .ar; de = upd (s .de) c v; at = s .at; lo = s .lo; hi = s .hi }
+
+module _ (L : Plan) (s : Lock) (p : ℕ) where
+  abbrev pub x : ℕ → ℕ
+  x i = L .tree .node p i
+
+  abbrev pub k : ℕ → ℕ
+  k i = L .tree .elem p i
+
+  abbrev pub c : ℕ
+  c = L .home p
+
+  -- where a rank goes when a level is done
+  abbrev pub done : ℕ → Place
+  done i = cond (eqb i (L .tree .top p)) idle (U8 (suc i))
+
+  abbrev pub next : ℕ → Place → (ℕ → Place) → Place
+  next n end more = cond (ltb (suc n) (L .counters)) (more (suc n)) end
+
+  -- one row, at the place given
+  abbrev pub row : Place → Lock
+  row idle = s
+  row (W1 i) = go (put-nx s (x i) 0) p (W2 i)
+  row (W2 i) = go (put-st s (x i) WAIT) p (W3 i)
+  row (W3 i) = go (join s (k i) (x i)) p (cond (eqb (s .tl (k i)) 0) (W6 i) (W4 i (s .tl (k i))))
+  row (W4 i t) = go (put-nx s t (x i)) p (W5 i)
+  row (W5 i) = cond (eqb (s .st (x i)) WAIT) s (cond (leb (s .st (x i)) 1000) (go s p writes) (cond (eqb (s .st (x i)) (tell i)) (go s p (W6 i)) s))
+  row (W6 i) = go (put-st s (x i) 0) p (cond (leb 2 i) (W1 (pred i)) (W7 0))
+  row (W7 n) = go (put-ar s n (s .ar n + 2 ^ 62)) p (next n (W8 0) W7)
+  row (W8 n) = go s p (W9 n (s .ar n))
+  row (W9 n a) = go s p (cond (eqb a (2 ^ 62 + s .de n)) (next n writes W8) (W8 n))
+  row (U1 i) = go s p (U2 i (s .st (x i)))
+  row (U2 i n) = go s p (cond (eqb (s .nx (x i)) 0) (cond (leb i 2) U4 (U1 (pred i))) (cond (ltb n (L .cap p i)) (U3 i (s .nx (x i)) (suc n)) (cond (leb i 2) U4 (U1 (pred i)))))
+  row (U3 i t n) = go (drop (put-st s t n) (k i)) p (done i)
+  row U4 = go s p (U5 (s .st (x 1)))
+  row (U5 n) = go s p (cond (eqb (s .nx (x 1)) 0) (U6 0) (cond (ltb n (L .cap p 1)) (U3 1 (s .nx (x 1)) (suc n)) (U6 0)))
+  row (U6 n) = go (put-de s n 0) p (U7 n (s .de n))
+  row (U7 n a) = go (put-ar s n (s .ar n - (2 ^ 62 + a))) p (next n (U8 1) U6)
+  row (U8 i) = go s p (cond (eqb (s .nx (x i)) 0) (U10 i) (U9 i (s .nx (x i))))
+  row (U9 i t) = go (drop (put-st s t (tell i)) (k i)) p (done i)
+  row (U10 i) = cond (eqb (s .tl (k i)) (x i)) (go (free s (k i)) p (done i)) (go s p (U8 i))
+  row R1 = go (put-ar s c (suc (s .ar c))) p (cond (ltb (s .ar c) (L .TR)) reads R2)
+  row R2 = go (put-ar s c (pred (s .ar c))) p R3
+  row R3 = go s p (cond (ltb (s .ar c) (L .TR)) R1 (cond (leb (2 ^ 62) (s .ar c)) R3 R4))
+  row R4 = go s p (cond (eqb (s .tl (k 1)) 0) R5 R3)
+  row R5 = go (put-de s c 0) p (R6 (s .de c))
+  row (R6 n) = go (put-ar s c (s .ar c - n)) p R3
+  row R7 = go (put-de s c (suc (s .de c))) p idle
+  row writes = s
+  row reads = s
+
+  abbrev pub step : Lock
+  step = row (s .place p)
+
+-- what the queues see of a place; w is the STATUS of the node that waits, at W5
+abbrev pub phaseOf : Place → ℕ → Phase
+phaseOf idle w = out
+phaseOf (W1 i) w = fresh i
+phaseOf (W2 i) w = clean i
+phaseOf (W3 i) w = ready i
+phaseOf (W4 i t) w = link i t
+phaseOf (W5 i) w = cond (eqb w WAIT) (wait i) (cond (leb w 1000) (hold 1) (hold i))
+phaseOf (W6 i) w = hold i
+phaseOf (W7 n) w = hold 1
+phaseOf (W8 n) w = hold 1
+phaseOf (W9 n a) w = hold 1
+phaseOf (U1 i) w = hold 1
+phaseOf (U2 i n) w = hold 1
+phaseOf (U3 i t n) w = give 1 i t
+phaseOf U4 w = hold 1
+phaseOf (U5 n) w = hold 1
+phaseOf (U6 n) w = hold 1
+phaseOf (U7 n a) w = hold 1
+phaseOf (U8 i) w = hold i
+phaseOf (U9 i t) w = give i i t
+phaseOf (U10 i) w = hold i
+phaseOf R1 w = out
+phaseOf R2 w = out
+phaseOf R3 w = out
+phaseOf R4 w = out
+phaseOf R5 w = out
+phaseOf (R6 n) w = out
+phaseOf R7 w = out
+phaseOf writes w = hold 1
+phaseOf reads w = out
+
+-- the level at which a place reads its STATUS word
+abbrev pub at-level : Place → ℕ
+at-level idle = 0
+at-level (W1 i) = 0
+at-level (W2 i) = 0
+at-level (W3 i) = 0
+at-level (W4 i t) = 0
+at-level (W5 i) = i
+at-level (W6 i) = 0
+at-level (W7 n) = 0
+at-level (W8 n) = 0
+at-level (W9 n a) = 0
+at-level (U1 i) = 0
+at-level (U2 i n) = 0
+at-level (U3 i t n) = 0
+at-level U4 = 0
+at-level (U5 n) = 0
+at-level (U6 n) = 0
+at-level (U7 n a) = 0
+at-level (U8 i) = 0
+at-level (U9 i t) = 0
+at-level (U10 i) = 0
+at-level R1 = 0
+at-level R2 = 0
+at-level R3 = 0
+at-level R4 = 0
+at-level R5 = 0
+at-level (R6 n) = 0
+at-level R7 = 0
+at-level writes = 0
+at-level reads = 0
+
+abbrev pub phase : Tree → Lock → ℕ → Phase
+phase T s p = phaseOf (s .place p) (s .st (T .node p (at-level (s .place p))))
+
+abbrev pub view : Tree → Lock → State
+view T s = record { ph = phase T s; nx = s .nx; tl = s .tl; at = s .at; lo = s .lo; hi = s .hi }
+
+-- the own statuses from a level on are counts within the plan's bounds
+abbrev pub Counts : Plan → (ℕ → ℕ) → ℕ → ℕ → Type 0
+Counts L st p from = (j : ℕ) → from ≤ j → j ≤ L .tree .top p → st (L .tree .node p j) ≤ 1000
+
+-- what a rank's place says of its fields and of the STATUS words
+abbrev pub Sound : Plan → (ℕ → ℕ) → ℕ → Place → Type 0
+Sound L st p idle = Unit {0}
+Sound L st p (W1 i) = Counts L st p (suc i)
+Sound L st p (W2 i) = Counts L st p (suc i)
+Sound L st p (W3 i) = (st (L .tree .node p i) ≡ WAIT) × Counts L st p (suc i)
+Sound L st p (W4 i t) = (st (L .tree .node p i) ≡ WAIT) × Counts L st p (suc i)
+Sound L st p (W5 i) = On (L .tree .top p) i × Counts L st p (suc i) × ((st (L .tree .node p i) ≡ WAIT) ⊎ ((st (L .tree .node p i) ≡ tell i) ⊎ Counts L st p 1))
+Sound L st p (W6 i) = Counts L st p (suc i)
+Sound L st p (W7 n) = Counts L st p 1
+Sound L st p (W8 n) = Counts L st p 1
+Sound L st p (W9 n a) = Counts L st p 1
+Sound L st p (U1 i) = (2 ≤ i) × (i ≤ L .tree .top p) × Counts L st p 1
+Sound L st p (U2 i n) = (2 ≤ i) × (i ≤ L .tree .top p) × Counts L st p 1
+Sound L st p (U3 i t n) = (n ≤ 1000) × Counts L st p 1
+Sound L st p U4 = Counts L st p 1
+Sound L st p (U5 n) = Counts L st p 1
+Sound L st p (U6 n) = Counts L st p 1
+Sound L st p (U7 n a) = Counts L st p 1
+Sound L st p (U8 i) = Unit {0}
+Sound L st p (U9 i t) = Unit {0}
+Sound L st p (U10 i) = Unit {0}
+Sound L st p R1 = Unit {0}
+Sound L st p R2 = Unit {0}
+Sound L st p R3 = Unit {0}
+Sound L st p R4 = Unit {0}
+Sound L st p R5 = Unit {0}
+Sound L st p (R6 n) = Unit {0}
+Sound L st p R7 = Unit {0}
+Sound L st p writes = Counts L st p 1
+Sound L st p reads = Unit {0}
+
+pub record Fine (L : Plan) (s : Lock) : Type 0 where
+  pub queues : Inv (L .tree) (view (L .tree) s)
+  pub sound : (p : ℕ) → Sound L (s .st) p (s .place p)
