@@ -20,11 +20,11 @@ in-is : (f : Place) → In f → (f ≡ writes) ⊎ (f ≡ reads)
 in-is f h = grind (arith, tells)
 
 -- the calls of a list on a machine, and that each is accepted
-pub calls : {B : Type 0} → (B → Move → B) → B → List Move → B
+abbrev pub calls : {B : Type 0} → (B → Move → B) → B → List Move → B
 calls call b [] = b
 calls call b (m ∷ ms) = calls call (call b m) ms
 
-pub Oks : {B : Type 0} → (B → Move → B) → (B → Move → Type 0) → B → List Move → Type 0
+abbrev pub Oks : {B : Type 0} → (B → Move → B) → (B → Move → Type 0) → B → List Move → Type 0
 Oks call Ok b [] = Unit {0}
 Oks call Ok b (m ∷ ms) = Ok b m × Oks call Ok (call b m) ms
 
@@ -53,7 +53,6 @@ module _ (P : ℕ) (L : Plan) (g : Apt P L) where
   Follows B call Ok Shows = (b : B) (s : Lock) (m : Move) → Good P L s → Shows b s → Accepted P L s m → Ok b m × Shows (call b m) (act L s m)
 
   pub lifted : (B : Type 0) (call : B → Move → B) (Ok : B → Move → Type 0) (Shows : B → Lock → Type 0) → Follows B call Ok Shows → (Q : Lock → Type 0) (b : B) (s : Lock) → Good P L s → Shows b s → Reach P L Q s → (ms : List Move) × Oks call Ok b ms × ((t : Lock) × Good P L t × Q t × Shows (calls call b ms) t)
-  unfolding calls Oks
   lifted B call Ok Shows f Q b s v h (here s′ q) = ([], tt, (s′, v, q, h))
   lifted B call Ok Shows f Q b s v h (move s′ m a r) =
       let d = f b s′ m v h a in

@@ -1,0 +1,163 @@
+-- What calls and answers tell of the places.
+use Prim.Native.Nat.{ℕ}
+use mathlib.Core.Bool.{Bool, true, false, cond}
+use mathlib.Core.Logic.{_⊎_}
+use mathlib.Core.Path.{_≡_}
+use native.Mathlib.Omega.{arith}
+use Rattle.std.specs.declared.result.Result.{Result}
+use Rattle.std.specs.declared.result.Result.the-variants.{Ok, Err}
+use Rattle.refusal.specs.declared.Refusal.{Refusal}
+use Rattle.plan.specs.Trees.{Tree}
+use Rattle.places.specs.Table.{next-of}
+use Rattle.places.specs.declared.answer.Answer.{Answer}
+use Rattle.places.specs.declared.follow.Next.{Next}
+use Rattle.queues.specs.Rows.{Place, idle, W1, W2, W3, W4, W5, W6, W7, W8, W9, U1, U2, U3, U4, U5, U6, U7, U8, U9, U10}
+use Rattle.queues.specs.Rows.{R1, R2, R3, R4, R5, R6, R7, writes, reads}
+use Rattle.law.specs.Presence.{Role, writer, reader, is-entered, is-free}
+
+-- a rank at a place, of a role, inside or not
+abbrev pub Link : Place → Role → Bool → Type 0
+Link idle r b = b ≡ false
+Link (W1 i) r b = (b ≡ false) × (r ≡ writer)
+Link (W2 i) r b = (b ≡ false) × (r ≡ writer)
+Link (W3 i) r b = (b ≡ false) × (r ≡ writer)
+Link (W4 i y) r b = (b ≡ false) × (r ≡ writer)
+Link (W5 i) r b = (b ≡ false) × (r ≡ writer)
+Link (W6 i) r b = (b ≡ false) × (r ≡ writer)
+Link (W7 k) r b = (b ≡ false) × (r ≡ writer)
+Link (W8 k) r b = (b ≡ false) × (r ≡ writer)
+Link (W9 k n) r b = (b ≡ false) × (r ≡ writer)
+Link (U1 i) r b = b ≡ false
+Link (U2 i n) r b = b ≡ false
+Link (U3 i y n) r b = b ≡ false
+Link U4 r b = b ≡ false
+Link (U5 n) r b = b ≡ false
+Link (U6 k) r b = b ≡ false
+Link (U7 k n) r b = b ≡ false
+Link (U8 i) r b = b ≡ false
+Link (U9 i y) r b = b ≡ false
+Link (U10 i) r b = b ≡ false
+Link R1 r b = (b ≡ false) × (r ≡ reader)
+Link R2 r b = (b ≡ false) × (r ≡ reader)
+Link R3 r b = (b ≡ false) × (r ≡ reader)
+Link R4 r b = (b ≡ false) × (r ≡ reader)
+Link R5 r b = (b ≡ false) × (r ≡ reader)
+Link (R6 n) r b = (b ≡ false) × (r ≡ reader)
+Link R7 r b = b ≡ false
+Link writes r b = (b ≡ true) × (r ≡ writer)
+Link reads r b = (b ≡ true) × (r ≡ reader)
+
+-- after a row of the table
+abbrev pub Linked : Result Next Refusal → Role → Bool → Type 0
+Linked (Err e) r b = Unit {0}
+Linked (Ok m) r b = Link (m .place) r (cond (is-entered (m .answer)) true b)
+
+pub linked : (t : Tree) (p : ℕ) (r : Role) (b : Bool) (f : Place) (w : ℕ) → Link f r b → Linked (next-of t p f w) r b
+linked t p r b idle w k = tt
+linked t p r b (W1 i) w k = k
+linked t p r b (W2 i) w k = k
+linked t p r b (W3 i) w k = grind arith
+linked t p r b (W4 i y) w k = k
+linked t p r b (W5 i) w k = grind arith
+linked t p r b (W6 i) w k = grind arith
+linked t p r b (W7 c) w k = grind arith
+linked t p r b (W8 c) w k = k
+linked t p r b (W9 c n) w k = grind arith
+linked t p r b (U1 i) w k = k
+linked t p r b (U2 i n) w k = grind arith
+linked t p r b (U3 i y n) w k = grind arith
+linked t p r b U4 w k = k
+linked t p r b (U5 n) w k = grind arith
+linked t p r b (U6 c) w k = k
+linked t p r b (U7 c n) w k = grind arith
+linked t p r b (U8 i) w k = grind arith
+linked t p r b (U9 i y) w k = grind arith
+linked t p r b (U10 i) w k = grind arith
+linked t p r b R1 w k = grind arith
+linked t p r b R2 w k = k
+linked t p r b R3 w k = grind arith
+linked t p r b R4 w k = grind arith
+linked t p r b R5 w k = k
+linked t p r b (R6 n) w k = k
+linked t p r b R7 w k = k
+linked t p r b writes w k = tt
+linked t p r b reads w k = tt
+
+-- who is inside as a writer is at the writer's place
+pub at-writes : (f : Place) (r : Role) (b : Bool) → Link f r b → b ≡ true → r ≡ writer → f ≡ writes
+at-writes f r b k e d = grind arith
+
+pub at-inside : (f : Place) (r : Role) (b : Bool) → Link f r b → b ≡ true → (f ≡ writes) ⊎ (f ≡ reads)
+at-inside f r b k e = grind arith
+
+-- who answers free is idle, and who steps was not
+abbrev pub Rests : Bool → Result Next Refusal → Type 0
+Rests n (Err e) = Unit {0}
+Rests n (Ok m) = cond (is-free (m .answer)) true n ≡ true → m .place ≡ idle
+
+pub rested : (t : Tree) (p : ℕ) (n : Bool) (f : Place) (w : ℕ) → (n ≡ true → f ≡ idle) → Rests n (next-of t p f w)
+rested t p n idle w h = grind arith
+rested t p n (W1 i) w h = grind arith
+rested t p n (W2 i) w h = grind arith
+rested t p n (W3 i) w h = grind arith
+rested t p n (W4 i y) w h = grind arith
+rested t p n (W5 i) w h = grind arith
+rested t p n (W6 i) w h = grind arith
+rested t p n (W7 k) w h = grind arith
+rested t p n (W8 k) w h = grind arith
+rested t p n (W9 k m) w h = grind arith
+rested t p n (U1 i) w h = grind arith
+rested t p n (U2 i m) w h = grind arith
+rested t p n (U3 i y m) w h = grind arith
+rested t p n U4 w h = grind arith
+rested t p n (U5 m) w h = grind arith
+rested t p n (U6 k) w h = grind arith
+rested t p n (U7 k m) w h = grind arith
+rested t p n (U8 i) w h = grind arith
+rested t p n (U9 i y) w h = grind arith
+rested t p n (U10 i) w h = grind arith
+rested t p n R1 w h = grind arith
+rested t p n R2 w h = grind arith
+rested t p n R3 w h = grind arith
+rested t p n R4 w h = grind arith
+rested t p n R5 w h = grind arith
+rested t p n (R6 m) w h = grind arith
+rested t p n R7 w h = grind arith
+rested t p n writes w h = grind arith
+rested t p n reads w h = grind arith
+
+-- and who becomes idle answers free
+abbrev pub Frees : Bool → Result Next Refusal → Type 0
+Frees n (Err e) = Unit {0}
+Frees n (Ok m) = m .place ≡ idle → cond (is-free (m .answer)) true n ≡ true
+
+pub freed : (t : Tree) (p : ℕ) (n : Bool) (f : Place) (w : ℕ) → Frees n (next-of t p f w)
+freed t p n idle w = grind arith
+freed t p n (W1 i) w = grind arith
+freed t p n (W2 i) w = grind arith
+freed t p n (W3 i) w = grind arith
+freed t p n (W4 i y) w = grind arith
+freed t p n (W5 i) w = grind arith
+freed t p n (W6 i) w = grind arith
+freed t p n (W7 k) w = grind arith
+freed t p n (W8 k) w = grind arith
+freed t p n (W9 k m) w = grind arith
+freed t p n (U1 i) w = grind arith
+freed t p n (U2 i m) w = grind arith
+freed t p n (U3 i y m) w = grind arith
+freed t p n U4 w = grind arith
+freed t p n (U5 m) w = grind arith
+freed t p n (U6 k) w = grind arith
+freed t p n (U7 k m) w = grind arith
+freed t p n (U8 i) w = grind arith
+freed t p n (U9 i y) w = grind arith
+freed t p n (U10 i) w = grind arith
+freed t p n R1 w = grind arith
+freed t p n R2 w = grind arith
+freed t p n R3 w = grind arith
+freed t p n R4 w = grind arith
+freed t p n R5 w = grind arith
+freed t p n (R6 m) w = grind arith
+freed t p n R7 w = grind arith
+freed t p n writes w = grind arith
+freed t p n reads w = grind arith

@@ -1,0 +1,50 @@
+-- Right after layout the words and records show the lock in which nothing has happened.
+use Prim.Native.Nat.{ℕ, suc, _+_, _-_, _≤_, _<_}
+use mathlib.Core.Path.{_≡_, refl, sym, _∙_, ap, subst}
+use mathlib.Core.Bool.{Bool, true, false, cond, _&&_}
+use mathlib.Core.List.{List, _++_}
+use lib.Dec.{eqb, leb, ltb}
+use lib.ListN.{length, getD, drop, replicate, length-append, length-replicate, getD-replicate, List·getD-append}
+use native.Mathlib.Omega.{arith}
+use Rattle.std.specs.declared.result.Result.{Result}
+use Rattle.std.specs.declared.result.Result.the-variants.{Ok, Err}
+use Rattle.std.proofs.shelf.Ways.{tells}
+use Rattle.std.proofs.shelf.Tests.{and-parts, leb-true}
+use Rattle.memory.specs.Words.{Words}
+use Rattle.plan.specs.Trees.{Tree, counters, counter-home, homes}
+use Rattle.places.specs.declared.record.Record.{Record}
+use Rattle.refusal.specs.declared.Refusal.{Refusal}
+use Rattle.refusal.specs.declared.Refusal.the-variants.{TooShort}
+use Rattle.places.specs.Records.{recorded}
+use Rattle.lock.specs.Outcomes.{roomy}
+use Rattle.lock.specs.Layouts.{cleared, idled, laid-answer, laid-words, laid-records}
+use Rattle.queues.specs.Machine.{On}
+use Rattle.queues.specs.Rows.{idle}
+use Rattle.queues.specs.Claim.{fresh-lock}
+use Rattle.law.proofs.Bridge.{Shows, Geometry}
+
+zeros : (M h o x : ℕ) → On M h → o < 5 → cond (leb 1 h && ltb h (M + 1) && ltb o 5) 0 x ≡ 0
+zeros M h o x on l = grind (arith, tells)
+
+shows-cleared : (t : Tree) → Geometry t → (ws : Words) (rs : List Record) → roomy t ws rs ≡ true → Shows t (cleared ws (homes t + 1)) (idled rs (t .shape .ranks)) fresh-lock
+shows-cleared t G ws rs e =
+    let z = and-parts (leb (t .shape .ranks) (length rs)) (leb (homes t) (ws .count)) e in
+    let n = t .shape .ranks in
+    let l = length-replicate n (recorded idle) in
+    record {
+      ranks = omega (arith, length-append (replicate n (recorded idle)) (drop n rs), l);
+      room = leb-true (homes t) (ws .count) (z .1);
+      places = λ p on. List·getD-append (replicate n (recorded idle)) (drop n rs) (recorded idle) (p - 1) (omega (arith, l)) ∙ getD-replicate n (p - 1) (recorded idle) (recorded idle) (omega arith);
+      nexts = λ h on. zeros (homes t) h 0 (ws .word h 0) on (omega arith);
+      statuses = λ h on. zeros (homes t) h 1 (ws .word h 1) on (omega arith);
+      tails = λ h on. zeros (homes t) h 2 (ws .word h 2) on (omega arith);
+      arrives = λ c k. zeros (homes t) (counter-home t c) 3 (ws .word (counter-home t c) 3) (G .counter-in c k) (omega arith);
+      departs = λ c k. zeros (homes t) (counter-home t c) 4 (ws .word (counter-home t c) 4) (G .counter-in c k) (omega arith);
+    }
+
+accepted : (b : Bool) → _≡_ {A = Result (Unit {0}) Refusal} (cond b (Ok tt) (Err TooShort)) (Ok tt) → b ≡ true
+accepted true e = refl
+accepted false e = cc
+
+pub shows-start : (t : Tree) → Geometry t → (ws : Words) (rs : List Record) → laid-answer t ws rs ≡ Ok tt → Shows t (laid-words t ws rs) (laid-records t ws rs) fresh-lock
+shows-start t G ws rs e = let z : roomy t ws rs ≡ true = accepted (roomy t ws rs) e in subst (λ b. Shows t (cond b (cleared ws (homes t + 1)) ws) (cond b (idled rs (t .shape .ranks)) rs) fresh-lock) (sym z) (shows-cleared t G ws rs z)
