@@ -29,13 +29,14 @@ returns g c =
     let s = state (g .M·ReadMemory .words (c .loop-i .memory)) (c .loop-i .records) in
     let cs = c .args .calls .now in
     let last : length cs ≤ c .loop-i .i = c .loop-i-test .left in
+    let all = answers t (state (g .M·ReadMemory .words (c .args .memory .now)) (c .args .records .now)) cs in
     let end = ran-all t cs (c .loop-i .i) s _ last (c .loop-i .inv .0) in
     let n : c .loop-i .i ≡ length cs = omega arith in
     record {
       words = ap (λ (x : State). x .words) end;
       records = ap (λ (x : State). x .records) end;
       table =
-          answers-all t cs s (c .loop-i .answers) (c .args .answers .now) _
-          (subst (λ k. take k (c .loop-i .answers) ++ answers t s (drop k cs) ≡ _) n (c .loop-i .inv .1))
+          answers-all t cs s (c .loop-i .answers) (c .args .answers .now) all
+          (subst (λ k. take k (c .loop-i .answers) ++ answers t s (drop k cs) ≡ all) n (c .loop-i .inv .1))
           (subst (λ k. drop k (c .loop-i .answers) ≡ drop k (c .args .answers .now)) n (c .loop-i .inv .2));
     }
