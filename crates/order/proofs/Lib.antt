@@ -1,5 +1,7 @@
+pub mod Decimals
 pub mod Overlays
 pub mod RoundTrip
 pub mod Runs
-pub mod Whole
+pub mod Scripts
+pub mod ReadParts
 pub mod Written
