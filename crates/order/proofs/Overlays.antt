@@ -91,6 +91,10 @@ three-puts out o₁ o₂ o₃ p q r a b c h e₁ e₂ e₃ b-is c-is =
 pub pasted-front : (out l : List ℕ) → pasted out 0 l ≡ overlaid l out
 pasted-front out l = simp zero-add
 
+-- and the front is what was laid there
+pub front-of : (buffer l out : List ℕ) (n : ℕ) → buffer ≡ overlaid l out → n ≡ length l → take n buffer ≡ l
+front-of buffer l out n e m = rw e (take-at l (drop (length l) out) n (sym m))
+
 -- four parts from the front on
 pub four-parts : (out h e k g : List ℕ) (a b c : ℕ)
     → a ≡ length h → b ≡ a + length e → c ≡ b + length k

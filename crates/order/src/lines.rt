@@ -4,7 +4,8 @@ ghost use Prim.Native.Nat.{_+_, _^_, _<_, _≤_};
 ghost use mathlib.Core.List.{_++_};
 ghost use mathlib.Core.Path.{_≡_};
 ghost use lib.Dec.{T};
-ghost use lib.ListN.{length};
+ghost use lib.ListN.{length, take};
+ghost use Rattle.std.specs.Vec.{made};
 ghost use Rattle.std.specs.Written.{decimal};
 ghost use Rattle.order.specs.Bytes.{pasted};
 ghost use Rattle.order.specs.Lines.{
@@ -85,6 +86,7 @@ fn number_of(refusal: Refusal) -> u16
 fn put_refusal(out: &mut [u8], at: usize, refusal: Refusal) -> usize
     requires { ⌜ at + 15 ≤ length (now out) ⌝ }
     ensures value { λ r. ⌜ r ≡ at + length (refusal-words refusal) ⌝ }
+    ensures bound { λ r. ⌜ r ≤ at + 15 ⌝ }
     ensures buffer { λ _. ⌜ now (out .exit) ≡ pasted (now (out .entry)) at (refusal-words refusal) ⌝ }
 {
     put(out, at, b" refused ");
@@ -97,6 +99,7 @@ fn put_refusal(out: &mut [u8], at: usize, refusal: Refusal) -> usize
 fn put_reply(out: &mut [u8], at: usize, reply: Result<Answer, Refusal>) -> usize
     requires { ⌜ at + 15 ≤ length (now out) ⌝ }
     ensures value { λ r. ⌜ r ≡ at + length (reply-words reply) ⌝ }
+    ensures bound { λ r. ⌜ r ≤ at + 15 ⌝ }
     ensures buffer { λ _. ⌜ now (out .exit) ≡ pasted (now (out .entry)) at (reply-words reply) ⌝ }
 {
     match reply {
@@ -115,6 +118,8 @@ pub fn write_reply(call: Call, reply: Result<Answer, Refusal>, out: &mut [u8]) -
     ensures value { λ r. ⌜ r ≡ line-length (roomy-line (now (out .entry))) (reply-line call reply) ⌝ }
     ensures buffer { λ _. ⌜ now (out .exit)
         ≡ line-written (roomy-line (now (out .entry))) (reply-line call reply) (now (out .entry)) ⌝ }
+    ensures short { λ r. ⌜ made r (λ n. n ≤ length (now (out .exit))) ⌝ }
+    ensures line { λ r. ⌜ made r (λ n. take n (now (out .exit)) ≡ reply-line call reply) ⌝ }
 {
     if out.len() < 24 {
         return Err(Refusal::BufferTooSmall);
@@ -139,6 +144,8 @@ pub fn write_bad(fault: Fault, out: &mut [u8]) -> Result<usize, Refusal>
     ensures value { λ r. ⌜ r ≡ line-length (roomy-bad fault (now (out .entry))) (bad-line fault) ⌝ }
     ensures buffer { λ _. ⌜ now (out .exit)
         ≡ line-written (roomy-bad fault (now (out .entry))) (bad-line fault) (now (out .entry)) ⌝ }
+    ensures short { λ r. ⌜ made r (λ n. n ≤ length (now (out .exit))) ⌝ }
+    ensures line { λ r. ⌜ made r (λ n. take n (now (out .exit)) ≡ bad-line fault) ⌝ }
 {
     if !has_room_for_bad(fault, out) {
         return Err(Refusal::BufferTooSmall);

@@ -19,6 +19,7 @@ returns c =
     in
     record {
       value = simp length-append (omega (arith, e .value, same));
+      bound = omega (arith, e .bound);
       buffer =
           three-puts (c .args .out .now) (c .put .last .out) (c .put-decimal-behind .last .out) (c .put-2 .last .out)
           (codes " refused ") (decimal m) (10 ∷ []) (c .args .at) _ (c .put-decimal-behind .result) (omega arith)

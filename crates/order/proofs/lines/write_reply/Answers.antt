@@ -8,9 +8,9 @@ use lib.ListN.{length, length-append}
 use Rattle.std.proofs.shelf.Tests.{le-leb}
 use Rattle.std.specs.Written.{decimal}
 use Rattle.std.specs.declared.result.Result.the-variants.{Ok}
-use Rattle.order.specs.Bytes.{pasted}
+use Rattle.order.specs.Bytes.{overlaid, pasted}
 use Rattle.order.specs.Lines.{letter, rank, reply-line, reply-words}
-use Rattle.order.proofs.Overlays.{pasted-front, three-puts}
+use Rattle.order.proofs.Overlays.{front-of, pasted-front, three-puts}
 use Rattle.order.proofs.lines.write_reply.Needs as need
 
 pub returns : need.returns
@@ -27,13 +27,16 @@ returns c =
     let n : c .put-reply-end .result ≡ length (reply-line call reply) =
         simp length-append (omega (arith, d .value, e .value, same))
     in
-    record {
-      value = rw (room, n);
-      buffer =
-          rw room
+    let whole : c .put-reply-end .last .out ≡ overlaid (reply-line call reply) out =
           (three-puts out (c .put .last .out) (c .put-decimal-at .last .out) (c .put-reply-end .last .out)
           (c .letter-of .result ∷ 32 ∷ []) (decimal (c .rank-of .result)) (reply-words reply) 0 2
           (c .put-decimal-at .result) (omega arith) (c .put .ensures) (d .buffer) (e .buffer) (omega arith) (d .value)
           ∙ ap₂ (λ x y. pasted out 0 (x ∷ 32 ∷ (decimal y ++ reply-words reply))) l p
-          ∙ pasted-front out (reply-line call reply));
+          ∙ pasted-front out (reply-line call reply))
+    in
+    record {
+      value = rw (room, n);
+      buffer = rw room whole;
+      short = omega (arith, d .bound, e .bound);
+      line = front-of (c .put-reply-end .last .out) (reply-line call reply) out (c .put-reply-end .result) whole n;
     }
