@@ -1,4 +1,5 @@
 pub mod Decimals
+pub mod Offsets
 pub mod Overlays
 pub mod RoundTrip
 pub mod Runs
