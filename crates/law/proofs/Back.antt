@@ -108,13 +108,14 @@ module _ (t : Tree) (G : Geometry t) where
   -- each move that the machine accepts is a call that is done
   follows : (b : Run) (s : Lock) (m : Move) → Good P L s → Shown t b s → Accepted P L s m
       → Unit {0} × Shown t (goes-on t b m) (act L s m)
-  follows b s (step-move p) v (bit, k) a =
-      ( tt
-      , ( _
-        , does-row t G (b .at .words) (b .at .records) (b .present) (b .past) s bit k p (a .0)
-          (under-way L s p (s .place p) (a .1)) .0
-        )
-      )
+  follows b s (step-move p) v (bit, k) a = (
+    tt,
+    (
+      _,
+      does-row t G (b .at .words) (b .at .records) (b .present) (b .past) s bit k p (a .0)
+          (under-way L s p (s .place p) (a .1)) .0,
+    ),
+  )
   follows b s (leave-move p) v (bit, k) a = (tt, (bit, by (in-is (s .place p) (a .1))))
     where
       Left : Lock → Type 0
@@ -137,7 +138,7 @@ module _ (t : Tree) (G : Geometry t) where
       → (ms : List Move) × ((s′ : Lock) × AtRest P L s′ × Shown t (calls (goes-on t) b ms) s′)
   returns-to-rest b s bit k =
       let r = back-onto P L (G .apt) Run (goes-on t) (λ _ _. Unit {0}) (Shown t) follows b s
-          (record { bit = bit; safe = k .safe }) (bit, k) in
+      (record { bit = bit; safe = k .safe }) (bit, k) in
       (r .0, (r .2 .0, r .2 .2, r .2 .3))
 
 -- the moves as a list of calls: the state and the presence that they lead to

@@ -17,7 +17,8 @@ use Rattle.law.specs.Presence.{Presence, nobody, seen}
 use Rattle.law.specs.Rest.{At-rest}
 use Rattle.law.specs.WayBack.{Way-back}
 use Rattle.law.specs.declared.call.Call.{Call}
-use Rattle.law.proofs.Back.{Run, as-calls, goes-on, no-asks, ran-append, returns-to-rest, runs-at, runs-present, seen-append}
+use Rattle.law.proofs.Back.{Run, as-calls, goes-on, no-asks, ran-append, returns-to-rest, runs-at, runs-present}
+use Rattle.law.proofs.Back.{seen-append}
 use Rattle.law.proofs.Bridge.{Geometry}
 use Rattle.law.proofs.Planned.{every-plan}
 use Rattle.law.proofs.Rest.{at-rest}

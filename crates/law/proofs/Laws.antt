@@ -22,60 +22,94 @@ pub record Hung (P E : ℕ) (ps : List ℕ) (lev own : ℕ → ℕ) (T : Tree) :
   pub elem : (p i : ℕ) → On (T .top p) i → T .elem p i ≡ climbed ps (T .top p - i) (own p)
   pub node : (p i : ℕ) → On (T .top p) i → T .node p i ≡ cond (ltb i (T .top p)) (P + T .elem p (i + 1)) p
 
-module _ (P E N : ℕ) (ps : List ℕ) (lev own : ℕ → ℕ) (T : Tree) (h : Rooted E N ps lev) (u : Hung P E ps lev own T) where
-  pub elem-on : (p i : ℕ) → On (T .top p) i → Above E lev (T .top p - i) (own p) (T .elem p i)
-  elem-on p i o = rw (u .elem p i o) (climb E N ps lev h (T .top p - i) (own p) (u .on p (u .rank p i o)) (omega (arith, u .level p (u .rank p i o))))
+module _ (P E N : ℕ) (ps : List ℕ) (lev own : ℕ → ℕ) (T : Tree) (h : Rooted E N ps lev) (u : Hung P E ps lev own T)
+  where
+    pub elem-on : (p i : ℕ) → On (T .top p) i → Above E lev (T .top p - i) (own p) (T .elem p i)
+    elem-on p i o =
+        rw (u .elem p i o)
+        (climb E N ps lev h (T .top p - i) (own p) (u .on p (u .rank p i o))
+        (omega (arith, u .level p (u .rank p i o))))
 
-  pub elem-level : (p i : ℕ) → On (T .top p) i → lev (T .elem p i) ≡ i
-  elem-level p i o = omega (arith, elem-on p i o, u .level p (u .rank p i o))
+    pub elem-level : (p i : ℕ) → On (T .top p) i → lev (T .elem p i) ≡ i
+    elem-level p i o = omega (arith, elem-on p i o, u .level p (u .rank p i o))
 
-  pub elem-up : (p i j : ℕ) → On (T .top p) i → On (T .top p) j → j ≤ i → T .elem p j ≡ climbed ps (i - j) (T .elem p i)
-  elem-up p i j a b l =
-      let e : T .top p - j ≡ (i - j) + (T .top p - i) = omega arith in
-      rw (u .elem p i a, u .elem p j b, e) (above-more ps (i - j) (T .top p - i) (own p))
+    pub elem-up : (p i j : ℕ) → On (T .top p) i → On (T .top p) j → j ≤ i → T .elem p j ≡ climbed ps (i - j) (T .elem p i)
+    elem-up p i j a b l =
+        let e : T .top p - j ≡ (i - j) + (T .top p - i) = omega arith in
+        rw (u .elem p i a, u .elem p j b, e) (above-more ps (i - j) (T .top p - i) (own p))
 
-  pub node-cases : (p i : ℕ) → On (T .top p) i → ((i ≡ T .top p) × (T .node p i ≡ p)) ⊎ ((i < T .top p) × (T .node p i ≡ P + T .elem p (suc i)))
-  node-cases p i o = let e = rw add-one at (u .node p i o) in grind (arith, tells)
+    pub node-cases : (p i : ℕ) → On (T .top p) i
+        → ((i ≡ T .top p) × (T .node p i ≡ p)) ⊎ ((i < T .top p) × (T .node p i ≡ P + T .elem p (suc i)))
+    node-cases p i o = let e = rw add-one at (u .node p i o) in grind (arith, tells)
 
-  pub level-of : (p r i j : ℕ) → On (T .top p) i → On (T .top r) j → T .elem p i ≡ T .elem r j → i ≡ j
-  level-of p r i j a b e = sym (elem-level p i a) ∙ ap lev e ∙ elem-level r j b
+    pub level-of : (p r i j : ℕ) → On (T .top p) i → On (T .top r) j → T .elem p i ≡ T .elem r j → i ≡ j
+    level-of p r i j a b e = sym (elem-level p i a) ∙ ap lev e ∙ elem-level r j b
 
-  pub above : (p r i j : ℕ) → On (T .top p) i → On (T .top r) i → On (T .top p) j → j ≤ i → T .elem p i ≡ T .elem r i → T .elem p j ≡ T .elem r j
-  above p r i j a b c l e = elem-up p i j a c l ∙ ap (climbed ps (i - j)) e ∙ sym (elem-up r i j b (omega arith) l)
+    pub above : (p r i j : ℕ) → On (T .top p) i → On (T .top r) i → On (T .top p) j → j ≤ i → T .elem p i ≡ T .elem r i
+        → T .elem p j ≡ T .elem r j
+    above p r i j a b c l e = elem-up p i j a c l ∙ ap (climbed ps (i - j)) e ∙ sym (elem-up r i j b (omega arith) l)
 
-  pub queue-of : (p r i j : ℕ) → On (T .top p) i → On (T .top r) j → T .node p i ≡ T .node r j → (i ≡ j) × (T .elem p i ≡ T .elem r j)
-  queue-of p r i j a b e =
-      let c = node-cases p i a in
-      let d = node-cases r j b in
-      grind (arith, u .rank p i a, u .rank r j b, elem-on p (suc i), elem-on r (suc j), level-of p r (suc i) (suc j), above p r (suc i) i)
+    pub queue-of : (p r i j : ℕ) → On (T .top p) i → On (T .top r) j → T .node p i ≡ T .node r j
+        → (i ≡ j) × (T .elem p i ≡ T .elem r j)
+    queue-of p r i j a b e =
+        let c = node-cases p i a in
+        let d = node-cases r j b in
+        grind (
+          arith,
+          u .rank p i a,
+          u .rank r j b,
+          elem-on p (suc i),
+          elem-on r (suc j),
+          level-of p r (suc i) (suc j),
+          above p r (suc i) i,
+        )
 
-  pub below : (p r i : ℕ) → On (T .top p) i → On (T .top r) i → T .node p i ≡ T .node r i → (p ≡ r) ⊎ ((i < T .top p) × (i < T .top r) × (T .elem p (suc i) ≡ T .elem r (suc i)))
-  below p r i a b e = grind (arith, node-cases p i a, node-cases r i b, elem-on p (suc i), elem-on r (suc i), u .rank p i a, u .rank r i b)
+    pub below : (p r i : ℕ) → On (T .top p) i → On (T .top r) i → T .node p i ≡ T .node r i
+        → (p ≡ r) ⊎ ((i < T .top p) × (i < T .top r) × (T .elem p (suc i) ≡ T .elem r (suc i)))
+    below p r i a b e =
+        grind (
+          arith,
+          node-cases p i a,
+          node-cases r i b,
+          elem-on p (suc i),
+          elem-on r (suc i),
+          u .rank p i a,
+          u .rank r i b,
+        )
 
-  pub shared : (p r i : ℕ) → On (T .top p) i → i < T .top p → i < T .top r → T .elem p (suc i) ≡ T .elem r (suc i) → T .node p i ≡ T .node r i
-  shared p r i a b c e =
-      let f : On (T .top r) i = omega arith in
-      grind (arith, node-cases p i a, node-cases r i f)
+    pub shared : (p r i : ℕ) → On (T .top p) i → i < T .top p → i < T .top r → T .elem p (suc i) ≡ T .elem r (suc i)
+        → T .node p i ≡ T .node r i
+    shared p r i a b c e =
+        let f : On (T .top r) i = omega arith in
+        grind (arith, node-cases p i a, node-cases r i f)
 
-  pub no-zero : (p i : ℕ) → On (T .top p) i → T .node p i ≢ 0
-  no-zero p i a = grind (arith, node-cases p i a, u .rank p i a, elem-on p (suc i))
+    pub no-zero : (p i : ℕ) → On (T .top p) i → T .node p i ≢ 0
+    no-zero p i a = grind (arith, node-cases p i a, u .rank p i a, elem-on p (suc i))
 
-  pub lawful : Lawful T
-  lawful = record { level-of = level-of; above = above; queue-of = queue-of; below = below; shared = shared; no-zero = no-zero }
+    pub lawful : Lawful T
+    lawful =
+        record {
+          level-of = level-of;
+          above = above;
+          queue-of = queue-of;
+          below = below;
+          shared = shared;
+          no-zero = no-zero;
+        }
 
-  pub own-level : (p : ℕ) → On P p → On N (T .top p)
-  own-level p o = omega (arith, u .level p o, h .low (own p) (u .on p o))
+    pub own-level : (p : ℕ) → On P p → On N (T .top p)
+    own-level p o = omega (arith, u .level p o, h .low (own p) (u .on p o))
 
-  pub sized : Sized P E N T
-  sized =
-      record {
-        deep = λ p. grind (arith, u .rank p 1, own-level p);
-        rank = u .rank;
-        none = λ p n. grind (arith, u .rank p 1);
-        some = λ p o. own-level p o .from;
-        root = λ p o. lone E N ps lev h (T .elem p 1) (elem-on p 1 o .on) (elem-level p 1 o);
-        elem = λ p i o. elem-on p i o .on;
-        node = λ p i o. grind (arith, node-cases p i o, u .rank p i o, elem-on p (suc i));
-        home = λ p o. grind (arith, node-cases p (T .top p), own-level p o);
-        between = λ p i o l. grind (arith, node-cases p i o);
-      }
+    pub sized : Sized P E N T
+    sized =
+        record {
+          deep = λ p. grind (arith, u .rank p 1, own-level p);
+          rank = u .rank;
+          none = λ p n. grind (arith, u .rank p 1);
+          some = λ p o. own-level p o .from;
+          root = λ p o. lone E N ps lev h (T .elem p 1) (elem-on p 1 o .on) (elem-level p 1 o);
+          elem = λ p i o. elem-on p i o .on;
+          node = λ p i o. grind (arith, node-cases p i o, u .rank p i o, elem-on p (suc i));
+          home = λ p o. grind (arith, node-cases p (T .top p), own-level p o);
+          between = λ p i o l. grind (arith, node-cases p i o);
+        }

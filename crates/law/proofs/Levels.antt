@@ -15,7 +15,8 @@ pub stable : (ps : List ℕ) (f k : ℕ) → level-in f ps k < f → level-in (s
 stable ps zero k h = absurd (omega arith)
 stable ps (suc f) k h = let ih = stable ps f (parent ps k) in grind (arith, tells)
 
-pub level-up : (ps : List ℕ) (f k : ℕ) → level-in f ps k < f → 2 ≤ k → level-in f ps k ≡ suc (level-in f ps (parent ps k))
+pub level-up : (ps : List ℕ) (f k : ℕ) → level-in f ps k < f → 2 ≤ k
+    → level-in f ps k ≡ suc (level-in f ps (parent ps k))
 level-up ps f k h m = let e = stable ps f k h in grind (arith, tells)
 
 -- an element's climb in two parts

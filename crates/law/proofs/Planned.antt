@@ -115,10 +115,10 @@ module _ (t : Tree) (sz : sizes-right t ≡ true) (th : thresholds-right t ≡ t
     queue-of = λ p r i j a b e. let z = laws .queue-of p r i j a b e in (z .0, ap (λ x. P + x) (z .1));
     below =
         λ p r i a b e.
-            ⊎-elim (λ (z : p ≡ r). inl z)
-            (λ (z : (i < own-level t p) × (i < own-level t r) × (element-at t p (suc i) ≡ element-at t r (suc i))).
-                inr (z .0, z .1, ap (λ x. P + x) (z .2)))
-            (laws .below p r i a b e);
+        ⊎-elim (λ (z : p ≡ r). inl z)
+        (λ (z : (i < own-level t p) × (i < own-level t r) × (element-at t p (suc i) ≡ element-at t r (suc i))).
+        inr (z .0, z .1, ap (λ x. P + x) (z .2)))
+        (laws .below p r i a b e);
     shared = λ p r i a b c e. laws .shared p r i a b c (cancel _ _ e);
     no-zero = laws .no-zero;
   }
@@ -130,7 +130,7 @@ module _ (t : Tree) (sz : sizes-right t ≡ true) (th : thresholds-right t ≡ t
       let any : 0 < counters t = omega (arith, c .own 1 (omega (arith, s .some-rank))) in
       let r = readers (t .shape) th in
       let one : (p : ℕ) → On P p → On (own-level t p) 1 =
-          λ p o. record { from = omega arith; upto = sizes .some p o }
+      λ p o. record { from = omega arith; upto = sizes .some p o }
       in
       record {
         apt = record {
@@ -138,8 +138,8 @@ module _ (t : Tree) (sz : sizes-right t ≡ true) (th : thresholds-right t ≡ t
             tree = by-homes;
             small =
                 λ p j.
-                    cap-small (eqb j 1) (t .shape .«writer_threshold» - 1) (threshold t (element-at t p j))
-                    (writer-small (t .shape) th) (level-small (t .shape) th (level-of t (element-at t p j)));
+                cap-small (eqb j 1) (t .shape .«writer_threshold» - 1) (threshold t (element-at t p j))
+                (writer-small (t .shape) th) (level-small (t .shape) th (level-of t (element-at t p j)));
             cap = omega arith;
             ranks = λ p o. sizes .rank p 1 o;
             root = λ p q a b. ap (λ x. P + x) (sizes .root p a ∙ sym (sizes .root q b));

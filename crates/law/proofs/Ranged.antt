@@ -16,7 +16,9 @@ use Rattle.places.specs.declared.access.Access.{Access}
 use Rattle.places.specs.Records.{fits}
 use Rattle.places.specs.Table.{access-of}
 use Rattle.queues.specs.Machine.{Tree as Machine-tree, On, InRange, Inv, link, give, Linking}
-use Rattle.queues.specs.Rows.{Place, idle, W1, W2, W3, W4, W5, W6, W7, W8, W9, U1, U2, U3, U4, U5, U6, U7, U8, U9, U10, R1, R2, R3, R4, R5, R6, R7, writes, reads, Plan, Lock, view, phase, phaseOf, at-level, Sound}
+use Rattle.queues.specs.Rows.{Place, idle, W1, W2, W3, W4, W5, W6, W7, W8, W9, U1, U2, U3, U4, U5, U6, U7, U8, U9}
+use Rattle.queues.specs.Rows.{U10, R1, R2, R3, R4, R5, R6, R7, writes, reads, Plan, Lock, view, phase, phaseOf}
+use Rattle.queues.specs.Rows.{at-level, Sound}
 use Rattle.queues.specs.Whole.{Safe, Within}
 use Rattle.law.proofs.Bridge.{machine-plan, Geometry, Ranged}
 use Rattle.queues.proofs.Base.{asked, occupant, successor}
@@ -31,7 +33,9 @@ fits-ranged t p idle r = refl
 fits-ranged t p (W1 i) r = from-on 1 (own-level t p) i (r .from) (r .upto)
 fits-ranged t p (W2 i) r = from-on 1 (own-level t p) i (r .from) (r .upto)
 fits-ranged t p (W3 i) r = from-on 1 (own-level t p) i (r .from) (r .upto)
-fits-ranged t p (W4 i h) r = and-from _ _ (from-on 1 (own-level t p) i (r .0 .from) (r .0 .upto)) (from-on 1 (homes t) h (r .1 .from) (r .1 .upto))
+fits-ranged t p (W4 i h) r =
+    and-from _ _ (from-on 1 (own-level t p) i (r .0 .from) (r .0 .upto))
+    (from-on 1 (homes t) h (r .1 .from) (r .1 .upto))
 fits-ranged t p (W5 i) r = from-on 1 (own-level t p) i (r .from) (r .upto)
 fits-ranged t p (W6 i) r = from-on 1 (own-level t p) i (r .from) (r .upto)
 fits-ranged t p (W7 k) r = lt-ltb k (counters t) r
@@ -39,13 +43,17 @@ fits-ranged t p (W8 k) r = lt-ltb k (counters t) r
 fits-ranged t p (W9 k n) r = lt-ltb k (counters t) r
 fits-ranged t p (U1 i) r = from-on 2 (own-level t p) i (r .0) (r .1)
 fits-ranged t p (U2 i n) r = from-on 2 (own-level t p) i (r .0) (r .1)
-fits-ranged t p (U3 i h n) r = and-from _ _ (from-on 1 (own-level t p) i (r .0 .from) (r .0 .upto)) (from-on 1 (homes t) h (r .1 .from) (r .1 .upto))
+fits-ranged t p (U3 i h n) r =
+    and-from _ _ (from-on 1 (own-level t p) i (r .0 .from) (r .0 .upto))
+    (from-on 1 (homes t) h (r .1 .from) (r .1 .upto))
 fits-ranged t p U4 r = refl
 fits-ranged t p (U5 n) r = refl
 fits-ranged t p (U6 k) r = lt-ltb k (counters t) r
 fits-ranged t p (U7 k n) r = lt-ltb k (counters t) r
 fits-ranged t p (U8 i) r = from-on 1 (own-level t p) i (r .from) (r .upto)
-fits-ranged t p (U9 i h) r = and-from _ _ (from-on 1 (own-level t p) i (r .0 .from) (r .0 .upto)) (from-on 1 (homes t) h (r .1 .from) (r .1 .upto))
+fits-ranged t p (U9 i h) r =
+    and-from _ _ (from-on 1 (own-level t p) i (r .0 .from) (r .0 .upto))
+    (from-on 1 (homes t) h (r .1 .from) (r .1 .upto))
 fits-ranged t p (U10 i) r = from-on 1 (own-level t p) i (r .from) (r .upto)
 fits-ranged t p R1 r = refl
 fits-ranged t p R2 r = refl
@@ -76,15 +84,26 @@ module _ (t : Tree) (G : Geometry t) (s : Lock) (bit : ℕ → ℕ) (v : Safe (t
   node-any r i o = G .node-in r i o
 
   next-home : (p h i y : ℕ) → phase T s p ≡ give h i y → On (homes t) y
-  next-home p h i y e = let z = successor T (G .apt .sensible .tree) (view T s) inv p h i y e in subst (On (homes t)) (sym (z .target)) (node-any (z .rank) i (z .on))
+  next-home p h i y e =
+      let z = successor T (G .apt .sensible .tree) (view T s) inv p h i y e in
+      subst (On (homes t)) (sym (z .target)) (node-any (z .rank) i (z .on))
 
   link-home : (p i y : ℕ) → phase T s p ≡ link i y → On (homes t) y
-  link-home p i y e = let z = asked T (view T s) inv p (link i y) e in let o = occupant T (G .apt .sensible .tree) (view T s) inv (T .elem p i) (z .spot .turn) (z .spot .low) (omega (arith, z .spot .high)) in subst (On (homes t)) (sym (z .target ∙ o .is)) (node-any (o .rank) (o .lvl) (o .on))
+  link-home p i y e =
+      let z = asked T (view T s) inv p (link i y) e in
+      let o =
+      occupant T (G .apt .sensible .tree) (view T s) inv (T .elem p i) (z .spot .turn) (z .spot .low)
+      (omega (arith, z .spot .high)) in
+      subst (On (homes t)) (sym (z .target ∙ o .is)) (node-any (o .rank) (o .lvl) (o .on))
 
   pub ranged : (p : ℕ) → On (t .shape .ranks) p → (f : Place) → s .place p ≡ f → Ranged t p f
-  ranged p on f e = by f (phase-at T s p f e) (subst (InRange (T .top p)) (phase-at T s p f e) (inv .range p)) (subst (Sound L (s .st) p) e (v .fine .sound p)) (subst (Within (counters t)) e (v .within p))
+  ranged p on f e =
+      by f (phase-at T s p f e) (subst (InRange (T .top p)) (phase-at T s p f e) (inv .range p))
+      (subst (Sound L (s .st) p) e (v .fine .sound p)) (subst (Within (counters t)) e (v .within p))
     where
-      by : (f : Place) → phase T s p ≡ phaseOf f (s .st (T .node p (at-level f))) → InRange (T .top p) (phaseOf f (s .st (T .node p (at-level f)))) → Sound L (s .st) p f → Within (counters t) f → Ranged t p f
+      by : (f : Place) → phase T s p ≡ phaseOf f (s .st (T .node p (at-level f)))
+          → InRange (T .top p) (phaseOf f (s .st (T .node p (at-level f)))) → Sound L (s .st) p f
+          → Within (counters t) f → Ranged t p f
       by idle z r so w = tt
       by (W1 i) z r so w = r
       by (W2 i) z r so w = r

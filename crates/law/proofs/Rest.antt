@@ -20,7 +20,8 @@ use Rattle.queues.proofs.Sum.{total-same, total-zero}
 use Rattle.queues.proofs.Steps.{phase-at}
 use Rattle.queues.proofs.Whole.{gate-at, gate-phase}
 
-module _ (t : Tree) (G : Geometry t) (s : Lock) (bit : ℕ → ℕ) (v : Safe (t .shape .ranks) (machine-plan t) s bit) (all : (p : ℕ) → On (t .shape .ranks) p → s .place p ≡ idle) where
+module _ (t : Tree) (G : Geometry t) (s : Lock) (bit : ℕ → ℕ) (v : Safe (t .shape .ranks) (machine-plan t) s bit)
+    (all : (p : ℕ) → On (t .shape .ranks) p → s .place p ≡ idle) where
   abbrev P : ℕ
   P = t .shape .ranks
 
@@ -31,16 +32,35 @@ module _ (t : Tree) (G : Geometry t) (s : Lock) (bit : ℕ → ℕ) (v : Safe (t
   idle-at p i o = all p (G .apt .sensible .ranks p (omega arith))
 
   no-tail : (k : ℕ) → s .tl k ≡ 0
-  no-tail k = ⊎-elim (λ (z : s .lo k ≡ s .hi k). v .fine .queues .empty k z) (λ (z : s .lo k ≡ s .hi k → ⊥). let h = v .fine .queues .holder k (omega (arith, v .fine .queues .order k)) in let e = idle-at (h .rank) (h .lvl) (h .on) in let y : level (T .top (h .rank)) (phase T s (h .rank)) ≡ suc (T .top (h .rank)) = ap (level (T .top (h .rank))) (phase-at T s (h .rank) idle e) in absurd (omega (arith, h .on, h .holds))) (cases-eq (s .lo k) (s .hi k))
+  no-tail k =
+      ⊎-elim
+      (λ (z : s .lo k ≡ s .hi k). v .fine .queues .empty k z)
+      (λ (z : s .lo k ≡ s .hi k → ⊥).
+      let h = v .fine .queues .holder k (omega (arith, v .fine .queues .order k)) in
+      let e = idle-at (h .rank) (h .lvl) (h .on) in
+      let y : level (T .top (h .rank)) (phase T s (h .rank)) ≡ suc (T .top (h .rank)) =
+      ap (level (T .top (h .rank))) (phase-at T s (h .rank) idle e) in
+      absurd (omega (arith, h .on, h .holds)))
+      (cases-eq (s .lo k) (s .hi k))
 
   closed : (p c : ℕ) → Marks (gate T s p) c → ⊥
-  closed p c m = ⊎-elim (λ (z : gate T s p ≡ shut). subst (λ x. Marks x c) z m) (λ (z : (level (T .top p) (phase T s p) ≡ 1) × On (T .top p) 1). subst (λ x. Marks x c) (gate-at T s p idle (idle-at p 1 (z .1))) m) (gate-phase (T .top p) (s .place p) _ (v .fine .queues .range p))
+  closed p c m =
+      ⊎-elim
+      (λ (z : gate T s p ≡ shut). subst (λ x. Marks x c) z m)
+      (λ (z : (level (T .top p) (phase T s p) ≡ 1) × On (T .top p) 1).
+      subst (λ x. Marks x c) (gate-at T s p idle (idle-at p 1 (z .1))) m)
+      (gate-phase (T .top p) (s .place p) _ (v .fine .queues .range p))
 
   load-of : (p : ℕ) → 1 ≤ p → p ≤ P → loadOf (machine-plan t .home p) (s .place p) ≡ Counters.none
   load-of p a b = ap (loadOf (machine-plan t .home p)) (all p (omega arith))
 
-  zero-sum : (f : Load → ℕ → ℕ) (c : ℕ) → f Counters.none c ≡ 0 → total P (λ p. f (loadOf (machine-plan t .home p) (s .place p)) c) ≡ 0
-  zero-sum f c e = total-same P (λ _. 0) (λ p. f (loadOf (machine-plan t .home p) (s .place p)) c) (λ q a b. ap (λ l. f l c) (load-of q a b) ∙ e) ∙ total-zero P
+  zero-sum : (f : Load → ℕ → ℕ) (c : ℕ) → f Counters.none c ≡ 0
+      → total P (λ p. f (loadOf (machine-plan t .home p) (s .place p)) c) ≡ 0
+  zero-sum f c e =
+      total-same P
+      (λ _. 0)
+      (λ p. f (loadOf (machine-plan t .home p) (s .place p)) c)
+      (λ q a b. ap (λ l. f l c) (load-of q a b) ∙ e) ∙ total-zero P
 
   agree : (c : ℕ) → c < counters t → s .ar c ≡ s .de c
   agree c l =
@@ -52,5 +72,8 @@ module _ (t : Tree) (G : Geometry t) (s : Lock) (bit : ℕ → ℕ) (v : Safe (t
       omega (arith, w .sum, w .bits)
 
   pub at-rest : (ws : Words) (rs : List Record) → Shows t ws rs s → At-rest t ws
-  at-rest ws rs h = record { tails = λ k o. h .tails (P + k) (omega arith) ∙ no-tail (P + k); counts = λ c l. h .arrives c l ∙ (agree c l ∙ sym (h .departs c l)) }
-
+  at-rest ws rs h =
+      record {
+        tails = λ k o. h .tails (P + k) (omega arith) ∙ no-tail (P + k);
+        counts = λ c l. h .arrives c l ∙ (agree c l ∙ sym (h .departs c l));
+      }

@@ -57,7 +57,8 @@ use Rattle.law.proofs.Turns.{Traces, ordered}
 use Rattle.law.proofs.Lift.{lifted}
 
 -- what holds between the calls of a job
-pub record Holds (t : Tree) (ws : Words) (rs : List Record) (w : Presence) (h : History) (lock : Lock) (bit : ℕ → ℕ) : Type 0 where
+pub record Holds (t : Tree) (ws : Words) (rs : List Record) (w : Presence) (h : History) (lock : Lock) (bit : ℕ → ℕ) :
+    Type 0 where
   pub safe : Safe (t .shape .ranks) (machine-plan t) lock bit
   pub shows : Shows t ws rs lock
   pub link : (p : ℕ) → Link (lock .place p) (w .role p) (w .inside p)
@@ -68,7 +69,9 @@ pub record Holds (t : Tree) (ws : Words) (rs : List Record) (w : Presence) (h : 
 
 -- and after one of them, with the lock that comes next
 abbrev pub Kept : Tree → Words → List Record → Presence → History → Call → Outcome → Lock → (ℕ → ℕ) → Type 0
-Kept t ws rs w h c o s bit = Holds t (o .words) (o .records) (told w c (o .answer)) (written-down t ws rs h c (o .answer)) s bit × Fair (o .answer)
+Kept t ws rs w h c o s bit =
+    Holds t (o .words) (o .records) (told w c (o .answer)) (written-down t ws rs h c (o .answer)) s bit
+    × Fair (o .answer)
 
 abbrev pub Some-kept : Tree → Words → List Record → Presence → History → Call → Outcome → Type 0
 Some-kept t ws rs w h c o = (s : Lock) × (bit : ℕ → ℕ) × Kept t ws rs w h c o s bit
@@ -100,7 +103,8 @@ exit-off false N z = let y : _≡_ {A = ℕ} 0 1 = cc in omega arith
 pub exit-is : (N : ℕ) → cond (leb N 1) U4 (U1 N) ≡ cond (leb 2 N) (U1 N) U4
 exit-is N = grind (arith, tells)
 
-module _ (t : Tree) (G : Geometry t) (ws : Words) (rs : List Record) (w : Presence) (h : History) (s : Lock) (bit : ℕ → ℕ) (k : Holds t ws rs w h s bit) where
+module _ (t : Tree) (G : Geometry t) (ws : Words) (rs : List Record) (w : Presence) (h : History) (s : Lock)
+    (bit : ℕ → ℕ) (k : Holds t ws rs w h s bit) where
   abbrev P : ℕ
   P = t .shape .ranks
 
@@ -108,7 +112,8 @@ module _ (t : Tree) (G : Geometry t) (ws : Words) (rs : List Record) (w : Presen
   L = machine-plan t
 
   on-of : (p : ℕ) → within 1 P p ≡ true → On P p
-  on-of p e = let z = and-parts (leb 1 p) (leb p P) e in record { from = leb-true 1 p (z .0); upto = leb-true p P (z .1) }
+  on-of p e =
+      let z = and-parts (leb 1 p) (leb p P) e in record { from = leb-true 1 p (z .0); upto = leb-true p P (z .1) }
 
   in-range : (p : ℕ) → On P p → within 1 P p ≡ true
   in-range p on = and-from (leb 1 p) (leb p P) (le-leb 1 p (on .from)) (le-leb p P (on .upto))
@@ -117,7 +122,8 @@ module _ (t : Tree) (G : Geometry t) (ws : Words) (rs : List Record) (w : Presen
   enough = le-leb P (length rs) (k .shows .ranks)
 
   has-room : roomy t ws rs ≡ true
-  has-room = and-from (leb P (length rs)) (leb (homes t) (ws .count)) enough (le-leb (homes t) (ws .count) (k .shows .room))
+  has-room =
+      and-from (leb P (length rs)) (leb (homes t) (ws .count)) enough (le-leb (homes t) (ws .count) (k .shows .room))
 
   shown : (p : ℕ) → On P p → parsed t p (record-at rs p) ≡ Some (s .place p)
   shown p on =
@@ -132,61 +138,133 @@ module _ (t : Tree) (G : Geometry t) (ws : Words) (rs : List Record) (w : Presen
 
   -- a step that is not refused
   abbrev next-bit : ℕ → ℕ → ℕ
-  next-bit p = bits P L (G .apt .sensible .tree) (G .apt .sensible .small) (G .apt .sensible .cap) (G .apt .sensible .ranks) (G .apt .sensible .root) (G .apt .sensible .homes) s bit (k .safe) (s .place p)
+  next-bit p =
+      bits P L (G .apt .sensible .tree) (G .apt .sensible .small) (G .apt .sensible .cap) (G .apt .sensible .ranks)
+      (G .apt .sensible .root) (G .apt .sensible .homes) s bit (k .safe) (s .place p)
 
-  step-kept : (p : ℕ) → On P p → (o : Outcome) → Stepped t s p (s .place p) o (row L s p (s .place p)) → Kept t ws rs w h (Step p) o (row L s p (s .place p)) (next-bit p)
-  step-kept p on o z = subst (λ a. Holds t (o .words) (o .records) (told w (Step p) a) (written-down t ws rs h (Step p) a) (row L s p (s .place p)) (next-bit p) × Fair a) (sym (z .says)) (record {
-      safe = safe-row P L (g .tree) (g .small) (g .cap) (g .ranks) (g .root) (g .homes) s bit (k .safe) p (G .apt .all p on) (s .place p) refl;
-      shows = z .shows;
-      link = split p (λ q. Link (row L s p (s .place p) .place q) (w .role q) (cond (eqb q p && is-entered (z .answer)) true (w .inside q)))
-        (rw (eq-eqb p p refl, z .here) (subst (λ m. Linked m (w .role p) (w .inside p)) (z .follows) (linked t p (w .role p) (w .inside p) (s .place p) (z .given) (k .link p))))
-        (λ q ne. rw (ne-eqb q p ne, z .there q ne) (k .link q));
-      ranked = split p (λ q. cond (eqb q p && is-entered (z .answer)) true (w .inside q) ≡ true → On P q) (λ _. on) (λ q ne. rw (ne-eqb q p ne) (k .ranked q));
-      rest = split p (λ q. cond (eqb q p && is-free (z .answer)) true (w .idle q) ≡ true → row L s p (s .place p) .place q ≡ idle)
-        (rw (eq-eqb p p refl, z .here) (subst (Rests (w .idle p)) (z .follows) (rested t p (w .idle p) (s .place p) (z .given) (k .rest p))))
-        (λ q ne. rw (ne-eqb q p ne, z .there q ne) (k .rest q));
-      idles = split p (λ q. row L s p (s .place p) .place q ≡ idle → cond (eqb q p && is-free (z .answer)) true (w .idle q) ≡ true)
-        (rw (eq-eqb p p refl, z .here) (subst (Frees (w .idle p)) (z .follows) (freed t p (w .idle p) (s .place p) (z .given))))
-        (λ q ne. rw (ne-eqb q p ne, z .there q ne) (k .idles q));
-      trace = subst (λ (x : Option Place). Traces (row L s p (s .place p) .at) (row L s p (s .place p) .lo) (row L s p (s .place p) .hi) (adds-from t ws p h x)) (sym (shown p on)) (traced t G ws rs s bit (k .safe) (k .shows) p on h (k .trace) (s .place p) refl);
-    }, tt)
+  step-kept : (p : ℕ) → On P p → (o : Outcome) → Stepped t s p (s .place p) o (row L s p (s .place p))
+      → Kept t ws rs w h (Step p) o (row L s p (s .place p)) (next-bit p)
+  step-kept p on o z =
+      subst
+      (λ a.
+      Holds t (o .words) (o .records) (told w (Step p) a) (written-down t ws rs h (Step p) a)
+      (row L s p (s .place p)) (next-bit p) × Fair a)
+      (sym (z .says)) (
+        record {
+          safe =
+              safe-row P L (g .tree) (g .small) (g .cap) (g .ranks) (g .root) (g .homes) s bit (k .safe) p
+              (G .apt .all p on) (s .place p) refl;
+          shows = z .shows;
+          link =
+              split p
+              (λ q.
+              Link (row L s p (s .place p) .place q) (w .role q)
+              (cond (eqb q p && is-entered (z .answer)) true (w .inside q)))
+              (rw (eq-eqb p p refl, z .here)
+              (subst
+              (λ m. Linked m (w .role p) (w .inside p))
+              (z .follows)
+              (linked t p (w .role p) (w .inside p) (s .place p) (z .given) (k .link p))))
+              (λ q ne. rw (ne-eqb q p ne, z .there q ne) (k .link q));
+          ranked =
+              split p
+              (λ q. cond (eqb q p && is-entered (z .answer)) true (w .inside q) ≡ true → On P q)
+              (λ _. on)
+              (λ q ne. rw (ne-eqb q p ne) (k .ranked q));
+          rest =
+              split p
+              (λ q.
+              cond (eqb q p && is-free (z .answer)) true (w .idle q) ≡ true
+              → row L s p (s .place p) .place q ≡ idle)
+              (rw (eq-eqb p p refl, z .here)
+              (subst (Rests (w .idle p)) (z .follows)
+              (rested t p (w .idle p) (s .place p) (z .given) (k .rest p))))
+              (λ q ne. rw (ne-eqb q p ne, z .there q ne) (k .rest q));
+          idles =
+              split p
+              (λ q.
+              row L s p (s .place p) .place q ≡ idle
+              → cond (eqb q p && is-free (z .answer)) true (w .idle q) ≡ true)
+              (rw (eq-eqb p p refl, z .here)
+              (subst (Frees (w .idle p)) (z .follows)
+              (freed t p (w .idle p) (s .place p) (z .given))))
+              (λ q ne. rw (ne-eqb q p ne, z .there q ne) (k .idles q));
+          trace =
+              subst
+              (λ (x : Option Place).
+              Traces (row L s p (s .place p) .at) (row L s p (s .place p) .lo)
+              (row L s p (s .place p) .hi) (adds-from t ws p h x))
+              (sym (shown p on))
+              (traced t G ws rs s bit (k .safe) (k .shows) p on h (k .trace) (s .place p) refl);
+        },
+        tt,
+      )
     where
       g : Sensible P L
       g = G .apt .sensible
 
   -- the code's step of a known rank is the row of the place that its record shows
   stepped-is : (p : ℕ) → On P p → stepped t ws rs p ≡ stepped-from t ws rs p (Some (s .place p))
-  stepped-is p on = gates (roomy t ws rs) (within 1 P p) (stepped-from t ws rs p (parsed t p (record-at rs p))) (refused ws rs UnknownRank) _ has-room (in-range p on) ∙ ap (stepped-from t ws rs p) (shown p on)
+  stepped-is p on =
+      gates (roomy t ws rs) (within 1 P p) (stepped-from t ws rs p (parsed t p (record-at rs p)))
+      (refused ws rs UnknownRank) _ has-room (in-range p on) ∙ ap (stepped-from t ws rs p) (shown p on)
 
   kept-step : (p : ℕ) → Some-kept t ws rs w h (Step p) (called t ws rs (Step p))
   kept-step p = by (within 1 P p) refl
     where
       by : (b : Bool) → within 1 P p ≡ b → Some-kept t ws rs w h (Step p) (stepped t ws rs p)
-      by false e = stays (Step p) (stepped t ws rs p) UnknownRank refl (shut-gate (roomy t ws rs) (within 1 P p) _ _ _ has-room e)
+      by false e =
+          stays (Step p) (stepped t ws rs p) UnknownRank refl
+          (shut-gate (roomy t ws rs) (within 1 P p) _ _ _ has-room e)
       by true e = subst (Some-kept t ws rs w h (Step p)) (sym (stepped-is p (on-of p e))) (⊎-elim (λ (z : Stepped t s p (s .place p) (stepped-from t ws rs p (Some (s .place p))) (row L s p (s .place p))). (row L s p (s .place p), next-bit p, step-kept p (on-of p e) (stepped-from t ws rs p (Some (s .place p))) z)) (λ (z : (standing-at (s .place p) ≢ UnderWay) × (stepped-from t ws rs p (Some (s .place p)) ≡ refused ws rs NotUnderWay)). stays (Step p) (stepped-from t ws rs p (Some (s .place p))) NotUnderWay refl (z .1)) (lifted t G ws rs s bit (k .safe) (k .shows) p (on-of p e) (s .place p) refl))
 
   -- a step of a rank that is under way is done, and it is the row: what a chosen list of calls builds on
-  pub does-row : (p : ℕ) → On P p → standing-at (s .place p) ≡ UnderWay → Kept t ws rs w h (Step p) (called t ws rs (Step p)) (row L s p (s .place p)) (next-bit p)
+  pub does-row : (p : ℕ) → On P p → standing-at (s .place p) ≡ UnderWay
+      → Kept t ws rs w h (Step p) (called t ws rs (Step p)) (row L s p (s .place p)) (next-bit p)
   does-row p on u = subst (λ o. Kept t ws rs w h (Step p) o (row L s p (s .place p)) (next-bit p)) (sym (stepped-is p on)) (⊎-elim (λ (z : Stepped t s p (s .place p) (stepped-from t ws rs p (Some (s .place p))) (row L s p (s .place p))). step-kept p on (stepped-from t ws rs p (Some (s .place p))) z) (λ (z : (standing-at (s .place p) ≢ UnderWay) × (stepped-from t ws rs p (Some (s .place p)) ≡ refused ws rs NotUnderWay)). absurd (z .0 u)) (lifted t G ws rs s bit (k .safe) (k .shows) p on (s .place p) refl))
 
   -- a rank sent to a place by an ask or a leave
-  sent : (c : Call) (p : ℕ) → On P p → (f : Place) (a : Answer) → Safe P L (go s p f) bit → f ≢ idle → Link f (noted w c a .role p) (noted w c a .inside p) → (noted w c a .idle p ≡ false) → written-down t ws rs h c (Ok a) ≡ h → ((q : ℕ) → q ≢ p → (noted w c a .role q ≡ w .role q) × (noted w c a .inside q ≡ w .inside q) × (noted w c a .idle q ≡ w .idle q)) → Kept t ws rs w h c (with-words ws (turned rs p f a)) (go s p f) bit
-  sent c p on f a v off here up same there = (record {
+  sent : (c : Call) (p : ℕ) → On P p → (f : Place) (a : Answer) → Safe P L (go s p f) bit → f ≢ idle
+      → Link f (noted w c a .role p) (noted w c a .inside p) → (noted w c a .idle p ≡ false)
+      → written-down t ws rs h c (Ok a) ≡ h
+      → ((q : ℕ) → q ≢ p
+      → (noted w c a .role q ≡ w .role q) × (noted w c a .inside q ≡ w .inside q)
+      × (noted w c a .idle q ≡ w .idle q))
+      → Kept t ws rs w h c (with-words ws (turned rs p f a)) (go s p f) bit
+  sent c p on f a v off here up same there = (
+    record {
       safe = v;
       shows = shows-go t ws rs s (k .shows) p on f;
-      link = split p (λ q. Link (upd (s .place) p f q) (noted w c a .role q) (noted w c a .inside q)) (rw (upd-same (s .place) p f) here) (λ q ne. rw (upd-other (s .place) p f q ne, there q ne .0, there q ne .1) (k .link q));
-      ranked = split p (λ q. noted w c a .inside q ≡ true → On P q) (λ _. on) (λ q ne. rw (there q ne .1) (k .ranked q));
-      rest = split p (λ q. noted w c a .idle q ≡ true → upd (s .place) p f q ≡ idle) (λ z. absurd (true≢false (sym z ∙ up))) (λ q ne. rw (upd-other (s .place) p f q ne, there q ne .2) (k .rest q));
-      idles = split p (λ q. upd (s .place) p f q ≡ idle → noted w c a .idle q ≡ true) (λ z. absurd (off (sym (upd-same (s .place) p f) ∙ z))) (λ q ne. rw (upd-other (s .place) p f q ne, there q ne .2) (k .idles q));
+      link =
+          split p
+          (λ q. Link (upd (s .place) p f q) (noted w c a .role q) (noted w c a .inside q))
+          (rw (upd-same (s .place) p f) here)
+          (λ q ne. rw (upd-other (s .place) p f q ne, there q ne .0, there q ne .1) (k .link q));
+      ranked =
+          split p
+          (λ q. noted w c a .inside q ≡ true → On P q)
+          (λ _. on)
+          (λ q ne. rw (there q ne .1) (k .ranked q));
+      rest =
+          split p
+          (λ q. noted w c a .idle q ≡ true → upd (s .place) p f q ≡ idle)
+          (λ z. absurd (true≢false (sym z ∙ up)))
+          (λ q ne. rw (upd-other (s .place) p f q ne, there q ne .2) (k .rest q));
+      idles =
+          split p
+          (λ q. upd (s .place) p f q ≡ idle → noted w c a .idle q ≡ true)
+          (λ z. absurd (off (sym (upd-same (s .place) p f) ∙ z)))
+          (λ q ne. rw (upd-other (s .place) p f q ne, there q ne .2) (k .idles q));
       trace = subst (Traces (s .at) (s .lo) (s .hi)) (sym same) (k .trace);
-    }, tt)
+    },
+    tt,
+  )
 
   -- a call that touches no word, of a known rank, is what it does at the place that the record shows
   turn-is : (p : ℕ) → On P p → (f : Place → Turn) → turn-of t rs p f ≡ f (s .place p)
   turn-is p on f =
-      gates (leb P (length rs)) (within 1 P p) (turn-from rs f (parsed t p (record-at rs p))) (unchanged rs UnknownRank) _
-      enough (in-range p on)
-      ∙ ap (turn-from rs f) (shown p on)
+      gates (leb P (length rs)) (within 1 P p) (turn-from rs f (parsed t p (record-at rs p)))
+      (unchanged rs UnknownRank) _ enough (in-range p on) ∙ ap (turn-from rs f) (shown p on)
 
   no-turn : (p : ℕ) → within 1 P p ≡ false → (f : Place → Turn) → turn-of t rs p f ≡ unchanged rs UnknownRank
   no-turn p e f = shut-gate (leb P (length rs)) (within 1 P p) _ _ _ enough e
@@ -220,29 +298,58 @@ module _ (t : Tree) (G : Geometry t) (ws : Words) (rs : List Record) (w : Presen
   one-of p on = G .apt .all p on
 
   not-rest : (p : ℕ) (f : Place) → s .place p ≡ f → f ≢ idle → w .idle p ≡ false
-  not-rest p f e ne = ⊎-elim (λ (z : w .idle p ≡ true). absurd (ne (sym e ∙ k .rest p z))) (λ (z : w .idle p ≡ false). z) (cases-bool (w .idle p))
+  not-rest p f e ne =
+      ⊎-elim
+      (λ (z : w .idle p ≡ true). absurd (ne (sym e ∙ k .rest p z)))
+      (λ (z : w .idle p ≡ false). z)
+      (cases-bool (w .idle p))
 
   kept-ask-write : (p : ℕ) → Some-kept t ws rs w h (AskWrite p) (called t ws rs (AskWrite p))
-  kept-ask-write p = asks (AskWrite p) p (W1 (own-level t p)) refl (λ on e. sent (AskWrite p) p on (W1 (own-level t p)) Asked
-      (safe-ask-write P L (g .tree) (g .small) (g .cap) (g .ranks) (g .root) (g .homes) s bit (k .safe) p (one-of p on) e) (λ z. let y : _≡_ {A = ℕ} 0 1 = cc in omega arith)
-      (rw (eq-eqb p p refl) (was p idle e, refl)) (rw (eq-eqb p p refl)) refl
+  kept-ask-write p =
+      asks (AskWrite p) p (W1 (own-level t p)) refl
+      (λ on e.
+      sent (AskWrite p) p on (W1 (own-level t p)) Asked
+      (safe-ask-write P L (g .tree) (g .small) (g .cap) (g .ranks) (g .root) (g .homes) s bit (k .safe) p
+      (one-of p on) e)
+      (λ z. let y : _≡_ {A = ℕ} 0 1 = cc in omega arith)
+      (rw (eq-eqb p p refl) (was p idle e, refl))
+      (rw (eq-eqb p p refl))
+      refl
       (λ q ne. rw (ne-eqb q p ne) (refl, refl, refl)))
     where
       g : Sensible P L
       g = G .apt .sensible
 
   kept-ask-read : (p : ℕ) → Some-kept t ws rs w h (AskRead p) (called t ws rs (AskRead p))
-  kept-ask-read p = asks (AskRead p) p R1 refl (λ on e. sent (AskRead p) p on R1 Asked
-      (safe-ask-read P L (g .tree) (g .small) (g .cap) (g .ranks) (g .root) (g .homes) s bit (k .safe) p e) (λ z. let y : _≡_ {A = ℕ} 0 1 = cc in omega arith)
-      (rw (eq-eqb p p refl) (was p idle e, refl)) (rw (eq-eqb p p refl)) refl
+  kept-ask-read p =
+      asks (AskRead p) p R1 refl
+      (λ on e.
+      sent (AskRead p) p on R1 Asked
+      (safe-ask-read P L (g .tree) (g .small) (g .cap) (g .ranks) (g .root) (g .homes) s bit (k .safe) p
+      e)
+      (λ z. let y : _≡_ {A = ℕ} 0 1 = cc in omega arith)
+      (rw (eq-eqb p p refl) (was p idle e, refl))
+      (rw (eq-eqb p p refl))
+      refl
       (λ q ne. rw (ne-eqb q p ne) (refl, refl, refl)))
     where
       g : Sensible P L
       g = G .apt .sensible
 
   -- a writer that leaves, and a reader
-  leave-writes : (p : ℕ) → On P p → s .place p ≡ writes → Kept t ws rs w h (Leave p) (with-words ws (turned rs p (exit-of t p) Leaving)) (go s p (exit-of t p)) bit
-  leave-writes p on e = sent (Leave p) p on (exit-of t p) Leaving (subst (λ f. Safe P L (go s p f) bit) exit (safe-leave-write P L (g .tree) (g .small) (g .cap) (g .ranks) (g .root) (g .homes) s bit (k .safe) p e)) (exit-off (leb 2 (own-level t p)) (own-level t p)) (rw (eq-eqb p p refl) (out-of (leb 2 (own-level t p)) (own-level t p) (w .role p))) (not-rest p writes e (λ z. let y : _≡_ {A = ℕ} 0 1 = cc in omega arith)) refl (λ q ne. rw (ne-eqb q p ne) (refl, refl, refl))
+  leave-writes : (p : ℕ) → On P p → s .place p ≡ writes
+      → Kept t ws rs w h (Leave p) (with-words ws (turned rs p (exit-of t p) Leaving)) (go s p (exit-of t p)) bit
+  leave-writes p on e =
+      sent (Leave p) p on (exit-of t p) Leaving
+      (subst
+      (λ f. Safe P L (go s p f) bit)
+      exit
+      (safe-leave-write P L (g .tree) (g .small) (g .cap) (g .ranks) (g .root) (g .homes) s bit (k .safe)
+      p e))
+      (exit-off (leb 2 (own-level t p)) (own-level t p))
+      (rw (eq-eqb p p refl) (out-of (leb 2 (own-level t p)) (own-level t p) (w .role p)))
+      (not-rest p writes e (λ z. let y : _≡_ {A = ℕ} 0 1 = cc in omega arith)) refl
+      (λ q ne. rw (ne-eqb q p ne) (refl, refl, refl))
     where
       g : Sensible P L
       g = G .apt .sensible
@@ -250,8 +357,16 @@ module _ (t : Tree) (G : Geometry t) (ws : Words) (rs : List Record) (w : Presen
       exit : cond (leb (L .tree .top p) 1) U4 (U1 (L .tree .top p)) ≡ exit-of t p
       exit = exit-is (own-level t p)
 
-  leave-reads : (p : ℕ) → On P p → s .place p ≡ reads → Kept t ws rs w h (Leave p) (with-words ws (turned rs p R7 Leaving)) (go s p R7) bit
-  leave-reads p on e = sent (Leave p) p on R7 Leaving (safe-leave-read P L (g .tree) (g .small) (g .cap) (g .ranks) (g .root) (g .homes) s bit (k .safe) p on e) (λ z. let y : _≡_ {A = ℕ} 0 1 = cc in omega arith) (rw (eq-eqb p p refl) refl) (not-rest p reads e (λ z. let y : _≡_ {A = ℕ} 0 1 = cc in omega arith)) refl (λ q ne. rw (ne-eqb q p ne) (refl, refl, refl))
+  leave-reads : (p : ℕ) → On P p → s .place p ≡ reads
+      → Kept t ws rs w h (Leave p) (with-words ws (turned rs p R7 Leaving)) (go s p R7) bit
+  leave-reads p on e =
+      sent (Leave p) p on R7 Leaving
+      (safe-leave-read P L (g .tree) (g .small) (g .cap) (g .ranks) (g .root) (g .homes) s bit (k .safe) p on e)
+      (λ z. let y : _≡_ {A = ℕ} 0 1 = cc in omega arith)
+      (rw (eq-eqb p p refl) refl)
+      (not-rest p reads e (λ z. let y : _≡_ {A = ℕ} 0 1 = cc in omega arith))
+      refl
+      (λ q ne. rw (ne-eqb q p ne) (refl, refl, refl))
     where
       g : Sensible P L
       g = G .apt .sensible
@@ -278,11 +393,21 @@ module _ (t : Tree) (G : Geometry t) (ws : Words) (rs : List Record) (w : Presen
           at Reading z = (go s p R7, bit, leave-reads p (on-of p e) (is-reading (s .place p) z))
 
   -- a leave of a rank that is in is done: with `does-row`, what a chosen list of calls builds on
-  pub does-leave-write : (p : ℕ) → On P p → s .place p ≡ writes → Kept t ws rs w h (Leave p) (called t ws rs (Leave p)) (go s p (exit-of t p)) bit
-  does-leave-write p on e = subst (λ x. Kept t ws rs w h (Leave p) (with-words ws x) (go s p (exit-of t p)) bit) (sym (left-is p on ∙ ap (λ f. left-at t rs p (standing-at f)) e)) (leave-writes p on e)
+  pub does-leave-write : (p : ℕ) → On P p → s .place p ≡ writes
+      → Kept t ws rs w h (Leave p) (called t ws rs (Leave p)) (go s p (exit-of t p)) bit
+  does-leave-write p on e =
+      subst
+      (λ x. Kept t ws rs w h (Leave p) (with-words ws x) (go s p (exit-of t p)) bit)
+      (sym (left-is p on ∙ ap (λ f. left-at t rs p (standing-at f)) e))
+      (leave-writes p on e)
 
-  pub does-leave-read : (p : ℕ) → On P p → s .place p ≡ reads → Kept t ws rs w h (Leave p) (called t ws rs (Leave p)) (go s p R7) bit
-  does-leave-read p on e = subst (λ x. Kept t ws rs w h (Leave p) (with-words ws x) (go s p R7) bit) (sym (left-is p on ∙ ap (λ f. left-at t rs p (standing-at f)) e)) (leave-reads p on e)
+  pub does-leave-read : (p : ℕ) → On P p → s .place p ≡ reads
+      → Kept t ws rs w h (Leave p) (called t ws rs (Leave p)) (go s p R7) bit
+  does-leave-read p on e =
+      subst
+      (λ x. Kept t ws rs w h (Leave p) (with-words ws x) (go s p R7) bit)
+      (sym (left-is p on ∙ ap (λ f. left-at t rs p (standing-at f)) e))
+      (leave-reads p on e)
 
   pub kept : (c : Call) → Some-kept t ws rs w h c (called t ws rs c)
   kept (AskWrite p) = kept-ask-write p
@@ -296,25 +421,60 @@ module _ (t : Tree) (G : Geometry t) (ws : Words) (rs : List Record) (w : Presen
       let onp = one-of p (k .ranked p a) in
       let onq = one-of q (k .ranked q d) in
       let at-p = at-writes (s .place p) (w .role p) (w .inside p) (k .link p) a b in
-      ⊎-elim (λ (z : s .place q ≡ writes). one-writer L (G .apt .sensible .tree) (G .apt .sensible .small) s (k .safe .fine) p q onp onq (G .apt .sensible .root p q onp onq) at-p z) (λ (z : s .place q ≡ reads). absurd (no-reader P L (G .apt .sensible .tree) (G .apt .sensible .small) (G .apt .sensible .cap) (G .apt .sensible .ranks) (G .apt .sensible .root) (G .apt .sensible .homes) s bit (k .safe) p q onq at-p z)) (at-inside (s .place q) (w .role q) (w .inside q) (k .link q) d)
+      ⊎-elim
+      (λ (z : s .place q ≡ writes).
+      one-writer L (G .apt .sensible .tree) (G .apt .sensible .small) s (k .safe .fine) p q onp onq
+      (G .apt .sensible .root p q onp onq) at-p z)
+      (λ (z : s .place q ≡ reads).
+      absurd
+      (no-reader P L (G .apt .sensible .tree) (G .apt .sensible .small) (G .apt .sensible .cap)
+      (G .apt .sensible .ranks) (G .apt .sensible .root) (G .apt .sensible .homes) s bit (k .safe)
+      p q onq at-p z))
+      (at-inside (s .place q) (w .role q) (w .inside q) (k .link q) d)
 
 -- some lock holds
 abbrev pub Some-holds : Tree → Words → List Record → Presence → History → Type 0
 Some-holds t ws rs w h = (s : Lock) × (bit : ℕ → ℕ) × Holds t ws rs w h s bit
 
 -- over all calls of a job
-pub holds-ran : (t : Tree) → Geometry t → (calls : List Call) (ws : Words) (rs : List Record) (w : Presence) (h : History) → Some-holds t ws rs w h → Some-holds t (ran t (state ws rs) calls .words) (ran t (state ws rs) calls .records) (seen w calls (answers t (state ws rs) calls)) (history t (state ws rs) h calls)
+pub holds-ran : (t : Tree) → Geometry t
+    → (calls : List Call) (ws : Words) (rs : List Record) (w : Presence) (h : History) → Some-holds t ws rs w h
+    → Some-holds t (ran t (state ws rs) calls .words) (ran t (state ws rs) calls .records)
+    (seen w calls (answers t (state ws rs) calls)) (history t (state ws rs) h calls)
 holds-ran t G [] ws rs w h k = k
-holds-ran t G (c ∷ cs) ws rs w h k = let o = called t ws rs c in let z = kept t G ws rs w h (k .0) (k .1) (k .2) c in holds-ran t G cs (o .words) (o .records) (told w c (o .answer)) (written-down t ws rs h c (o .answer)) (z .0, z .1, z .2 .0)
+holds-ran t G (c ∷ cs) ws rs w h k =
+    let o = called t ws rs c in
+    let z = kept t G ws rs w h (k .0) (k .1) (k .2) c in
+    holds-ran t G cs (o .words) (o .records) (told w c (o .answer)) (written-down t ws rs h c (o .answer))
+    (z .0, z .1, z .2 .0)
 
-pub fair-ran : (t : Tree) → Geometry t → (calls : List Call) (ws : Words) (rs : List Record) (w : Presence) (h : History) → Some-holds t ws rs w h → All-fair (answers t (state ws rs) calls)
+pub fair-ran : (t : Tree) → Geometry t
+    → (calls : List Call) (ws : Words) (rs : List Record) (w : Presence) (h : History) → Some-holds t ws rs w h
+    → All-fair (answers t (state ws rs) calls)
 fair-ran t G [] ws rs w h k = tt
-fair-ran t G (c ∷ cs) ws rs w h k = let o = called t ws rs c in let z = kept t G ws rs w h (k .0) (k .1) (k .2) c in (z .2 .1, fair-ran t G cs (o .words) (o .records) (told w c (o .answer)) (written-down t ws rs h c (o .answer)) (z .0, z .1, z .2 .0))
+fair-ran t G (c ∷ cs) ws rs w h k =
+    let o = called t ws rs c in
+    let z = kept t G ws rs w h (k .0) (k .1) (k .2) c in (
+      z .2 .1,
+      fair-ran t G cs (o .words) (o .records) (told w c (o .answer)) (written-down t ws rs h c (o .answer))
+          (z .0, z .1, z .2 .0),
+    )
 
-start : (t : Tree) → Geometry t → (ws : Words) (rs : List Record) → laid-answer t ws rs ≡ Ok tt → Holds t (laid-words t ws rs) (laid-records t ws rs) nobody nothing fresh-lock (λ c. 0)
-start t G ws rs e = record { safe = safe-start (t .shape .ranks) (machine-plan t); shows = shows-start t G ws rs e; link = λ p. refl; ranked = λ p z. absurd (true≢false (sym z)); rest = λ p z. refl; idles = λ p z. refl; trace = record { joined = λ q. refl; came = λ q. refl; gone = λ q. refl } }
+start : (t : Tree) → Geometry t → (ws : Words) (rs : List Record) → laid-answer t ws rs ≡ Ok tt
+    → Holds t (laid-words t ws rs) (laid-records t ws rs) nobody nothing fresh-lock (λ c. 0)
+start t G ws rs e =
+    record {
+      safe = safe-start (t .shape .ranks) (machine-plan t);
+      shows = shows-start t G ws rs e;
+      link = λ p. refl;
+      ranked = λ p z. absurd (true≢false (sym z));
+      rest = λ p z. refl;
+      idles = λ p z. refl;
+      trace = record { joined = λ q. refl; came = λ q. refl; gone = λ q. refl };
+    }
 
-module _ (t : Tree) (G : Geometry t) (ws : Words) (rs : List Record) (e : laid-answer t ws rs ≡ Ok tt) (calls : List Call) where
+module _ (t : Tree) (G : Geometry t) (ws : Words) (rs : List Record) (e : laid-answer t ws rs ≡ Ok tt)
+    (calls : List Call) where
   abbrev end : State
   end = ran t (laid t ws rs) calls
 
@@ -325,7 +485,9 @@ module _ (t : Tree) (G : Geometry t) (ws : Words) (rs : List Record) (e : laid-a
   end-history = history t (laid t ws rs) nothing calls
 
   pub at-end : Some-holds t (end .words) (end .records) eye end-history
-  at-end = holds-ran t G calls (laid-words t ws rs) (laid-records t ws rs) nobody nothing (fresh-lock, (λ c. 0), start t G ws rs e)
+  at-end =
+      holds-ran t G calls (laid-words t ws rs) (laid-records t ws rs) nobody nothing
+      (fresh-lock, (λ c. 0), start t G ws rs e)
 
   pub end-alone : Alone eye
   end-alone = alone t G (end .words) (end .records) eye end-history (at-end .0) (at-end .1) (at-end .2)

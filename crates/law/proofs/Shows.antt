@@ -36,20 +36,22 @@ done-by ws h o (Put w) on l =
     (resolved (ws .count) h o (Ok 0) Err on l, resolved (ws .count) h o (storing ws h o w) (λ _. ws) on l)
 done-by ws h o (Swap w) on l =
     (resolved (ws .count) h o (Ok (ws .word h o)) Err on l, resolved (ws .count) h o (storing ws h o w) (λ _. ws) on l)
-done-by ws h o (Add w) on l =
-    ( resolved (ws .count) h o (Ok (ws .word h o)) Err on l
-    , resolved (ws .count) h o (storing ws h o ((ws .word h o + w) % 2 ^ 64)) (λ _. ws) on l
-    )
-done-by ws h o (Cas v w) on l =
-    ( resolved (ws .count) h o (Ok (ws .word h o)) Err on l
-    , ap (λ x. cond (eqb (ws .word h o) v) x ws) (resolved (ws .count) h o (storing ws h o w) (λ _. ws) on l)
-    )
+done-by ws h o (Add w) on l = (
+  resolved (ws .count) h o (Ok (ws .word h o)) Err on l,
+  resolved (ws .count) h o (storing ws h o ((ws .word h o + w) % 2 ^ 64)) (λ _. ws) on l,
+)
+done-by ws h o (Cas v w) on l = (
+  resolved (ws .count) h o (Ok (ws .word h o)) Err on l,
+  ap (λ x. cond (eqb (ws .word h o) v) x ws) (resolved (ws .count) h o (storing ws h o w) (λ _. ws) on l),
+)
 
 module _ (t : Tree) (ws : Words) (rs : List Record) (s : Lock) (v : Shows t ws rs s) where
   pub shows-nx : (h x : ℕ) → Shows t (storing ws h 0 x) rs (put-nx s h x)
   unfolding upd
   shows-nx h x = record {
-    ranks = v .ranks; room = v .room; places = v .places;
+    ranks = v .ranks;
+    room = v .room;
+    places = v .places;
     nexts = λ g on. let e = v .nexts g on in grind (arith, tells);
     statuses = λ g on. let e = v .statuses g on in grind (arith, tells);
     tails = λ g on. let e = v .tails g on in grind (arith, tells);
@@ -60,7 +62,9 @@ module _ (t : Tree) (ws : Words) (rs : List Record) (s : Lock) (v : Shows t ws r
   pub shows-st : (h x : ℕ) → Shows t (storing ws h 1 x) rs (put-st s h x)
   unfolding upd
   shows-st h x = record {
-    ranks = v .ranks; room = v .room; places = v .places;
+    ranks = v .ranks;
+    room = v .room;
+    places = v .places;
     nexts = λ g on. let e = v .nexts g on in grind (arith, tells);
     statuses = λ g on. let e = v .statuses g on in grind (arith, tells);
     tails = λ g on. let e = v .tails g on in grind (arith, tells);
@@ -71,7 +75,9 @@ module _ (t : Tree) (ws : Words) (rs : List Record) (s : Lock) (v : Shows t ws r
   pub shows-join : (h x : ℕ) → Shows t (storing ws h 2 x) rs (join s h x)
   unfolding upd
   shows-join h x = record {
-    ranks = v .ranks; room = v .room; places = v .places;
+    ranks = v .ranks;
+    room = v .room;
+    places = v .places;
     nexts = λ g on. let e = v .nexts g on in grind (arith, tells);
     statuses = λ g on. let e = v .statuses g on in grind (arith, tells);
     tails = λ g on. let e = v .tails g on in grind (arith, tells);
@@ -82,7 +88,9 @@ module _ (t : Tree) (ws : Words) (rs : List Record) (s : Lock) (v : Shows t ws r
   pub shows-free : (h : ℕ) → Shows t (storing ws h 2 0) rs (free s h)
   unfolding upd
   shows-free h = record {
-    ranks = v .ranks; room = v .room; places = v .places;
+    ranks = v .ranks;
+    room = v .room;
+    places = v .places;
     nexts = λ g on. let e = v .nexts g on in grind (arith, tells);
     statuses = λ g on. let e = v .statuses g on in grind (arith, tells);
     tails = λ g on. let e = v .tails g on in grind (arith, tells);
@@ -91,28 +99,71 @@ module _ (t : Tree) (ws : Words) (rs : List Record) (s : Lock) (v : Shows t ws r
   }
 
   pub shows-drop : (h : ℕ) → Shows t ws rs (drop s h)
-  shows-drop h = record { ranks = v .ranks; room = v .room; places = v .places; nexts = v .nexts; statuses = v .statuses; tails = v .tails; arrives = v .arrives; departs = v .departs }
+  shows-drop h =
+      record {
+        ranks = v .ranks;
+        room = v .room;
+        places = v .places;
+        nexts = v .nexts;
+        statuses = v .statuses;
+        tails = v .tails;
+        arrives = v .arrives;
+        departs = v .departs;
+      }
 
   pub shows-go : (p : ℕ) → On (t .shape .ranks) p → (f : Place) → Shows t ws (set rs (p - 1) (recorded f)) (go s p f)
-  shows-go p on f = record {
-    ranks = rw (length-set rs (p - 1) (recorded f)) (v .ranks);
-    room = v .room;
-    places = split p (λ q. On (t .shape .ranks) q → getD (set rs (p - 1) (recorded f)) (q - 1) (recorded idle) ≡ recorded (upd (s .place) p f q)) (λ _. rw (upd-same (s .place) p f) (getD-set-same rs (p - 1) (recorded f) (recorded idle) (omega (arith, v .ranks)))) (λ q ne on′. rw (upd-other (s .place) p f q ne) (getD-set-other rs (p - 1) (q - 1) (recorded f) (recorded idle) (omega arith) ∙ v .places q on′));
-    nexts = v .nexts; statuses = v .statuses; tails = v .tails; arrives = v .arrives; departs = v .departs;
-  }
+  shows-go p on f =
+      record {
+        ranks = rw (length-set rs (p - 1) (recorded f)) (v .ranks);
+        room = v .room;
+        places =
+            split p
+            (λ q.
+            On (t .shape .ranks) q
+            → getD (set rs (p - 1) (recorded f)) (q - 1) (recorded idle) ≡ recorded (upd (s .place) p f q))
+            (λ _.
+            rw (upd-same (s .place) p f)
+            (getD-set-same rs (p - 1) (recorded f) (recorded idle) (omega (arith, v .ranks))))
+            (λ q ne on′.
+            rw (upd-other (s .place) p f q ne)
+            (getD-set-other rs (p - 1) (q - 1) (recorded f) (recorded idle) (omega arith)
+            ∙ v .places q on′));
+        nexts = v .nexts;
+        statuses = v .statuses;
+        tails = v .tails;
+        arrives = v .arrives;
+        departs = v .departs;
+      }
 
   -- a record recorded as it was
-  pub shows-stay : (p : ℕ) → On (t .shape .ranks) p → (f : Place) → s .place p ≡ f → Shows t ws (set rs (p - 1) (recorded f)) s
-  shows-stay p on f e = let w = shows-go p on f in record {
-    ranks = w .ranks; room = v .room;
-    places = split p (λ q. On (t .shape .ranks) q → getD (set rs (p - 1) (recorded f)) (q - 1) (recorded idle) ≡ recorded (s .place q)) (λ o. w .places p o ∙ ap recorded (upd-same (s .place) p f ∙ sym e)) (λ q ne o. w .places q o ∙ ap recorded (upd-other (s .place) p f q ne));
-    nexts = v .nexts; statuses = v .statuses; tails = v .tails; arrives = v .arrives; departs = v .departs;
-  }
+  pub shows-stay : (p : ℕ) → On (t .shape .ranks) p → (f : Place) → s .place p ≡ f
+      → Shows t ws (set rs (p - 1) (recorded f)) s
+  shows-stay p on f e =
+      let w = shows-go p on f in
+      record {
+        ranks = w .ranks;
+        room = v .room;
+        places =
+            split p
+            (λ q.
+            On (t .shape .ranks) q
+            → getD (set rs (p - 1) (recorded f)) (q - 1) (recorded idle) ≡ recorded (s .place q))
+            (λ o. w .places p o ∙ ap recorded (upd-same (s .place) p f ∙ sym e))
+            (λ q ne o. w .places q o ∙ ap recorded (upd-other (s .place) p f q ne));
+        nexts = v .nexts;
+        statuses = v .statuses;
+        tails = v .tails;
+        arrives = v .arrives;
+        departs = v .departs;
+      }
 
-  pub shows-ar : ((a b : ℕ) → counter-home t a ≡ counter-home t b → a ≡ b) → (k x y : ℕ) → x ≡ y → Shows t (storing ws (counter-home t k) 3 x) rs (put-ar s k y)
+  pub shows-ar : ((a b : ℕ) → counter-home t a ≡ counter-home t b → a ≡ b) → (k x y : ℕ) → x ≡ y
+      → Shows t (storing ws (counter-home t k) 3 x) rs (put-ar s k y)
   unfolding upd
   shows-ar one k x y d = record {
-    ranks = v .ranks; room = v .room; places = v .places;
+    ranks = v .ranks;
+    room = v .room;
+    places = v .places;
     nexts = λ g on. let e = v .nexts g on in grind (arith, tells);
     statuses = λ g on. let e = v .statuses g on in grind (arith, tells);
     tails = λ g on. let e = v .tails g on in grind (arith, tells);
@@ -120,10 +171,13 @@ module _ (t : Tree) (ws : Words) (rs : List Record) (s : Lock) (v : Shows t ws r
     departs = λ c l. let e = v .departs c l in grind (arith, tells, one);
   }
 
-  pub shows-de : ((a b : ℕ) → counter-home t a ≡ counter-home t b → a ≡ b) → (k x y : ℕ) → x ≡ y → Shows t (storing ws (counter-home t k) 4 x) rs (put-de s k y)
+  pub shows-de : ((a b : ℕ) → counter-home t a ≡ counter-home t b → a ≡ b) → (k x y : ℕ) → x ≡ y
+      → Shows t (storing ws (counter-home t k) 4 x) rs (put-de s k y)
   unfolding upd
   shows-de one k x y d = record {
-    ranks = v .ranks; room = v .room; places = v .places;
+    ranks = v .ranks;
+    room = v .room;
+    places = v .places;
     nexts = λ g on. let e = v .nexts g on in grind (arith, tells);
     statuses = λ g on. let e = v .statuses g on in grind (arith, tells);
     tails = λ g on. let e = v .tails g on in grind (arith, tells);

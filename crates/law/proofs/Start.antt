@@ -26,7 +26,8 @@ use Rattle.law.proofs.Bridge.{Shows, Geometry}
 zeros : (M h o x : ℕ) → On M h → o < 5 → cond (leb 1 h && ltb h (M + 1) && ltb o 5) 0 x ≡ 0
 zeros M h o x on l = grind (arith, tells)
 
-shows-cleared : (t : Tree) → Geometry t → (ws : Words) (rs : List Record) → roomy t ws rs ≡ true → Shows t (cleared ws (homes t + 1)) (idled rs (t .shape .ranks)) fresh-lock
+shows-cleared : (t : Tree) → Geometry t → (ws : Words) (rs : List Record) → roomy t ws rs ≡ true
+    → Shows t (cleared ws (homes t + 1)) (idled rs (t .shape .ranks)) fresh-lock
 shows-cleared t G ws rs e =
     let z = and-parts (leb (t .shape .ranks) (length rs)) (leb (homes t) (ws .count)) e in
     let n = t .shape .ranks in
@@ -34,17 +35,30 @@ shows-cleared t G ws rs e =
     record {
       ranks = omega (arith, length-append (replicate n (recorded idle)) (drop n rs), l);
       room = leb-true (homes t) (ws .count) (z .1);
-      places = λ p on. List·getD-append (replicate n (recorded idle)) (drop n rs) (recorded idle) (p - 1) (omega (arith, l)) ∙ getD-replicate n (p - 1) (recorded idle) (recorded idle) (omega arith);
+      places =
+          λ p on.
+          List·getD-append (replicate n (recorded idle)) (drop n rs) (recorded idle) (p - 1) (omega (arith, l))
+          ∙ getD-replicate n (p - 1) (recorded idle) (recorded idle) (omega arith);
       nexts = λ h on. zeros (homes t) h 0 (ws .word h 0) on (omega arith);
       statuses = λ h on. zeros (homes t) h 1 (ws .word h 1) on (omega arith);
       tails = λ h on. zeros (homes t) h 2 (ws .word h 2) on (omega arith);
-      arrives = λ c k. zeros (homes t) (counter-home t c) 3 (ws .word (counter-home t c) 3) (G .counter-in c k) (omega arith);
-      departs = λ c k. zeros (homes t) (counter-home t c) 4 (ws .word (counter-home t c) 4) (G .counter-in c k) (omega arith);
+      arrives =
+          λ c k.
+          zeros (homes t) (counter-home t c) 3 (ws .word (counter-home t c) 3) (G .counter-in c k) (omega arith);
+      departs =
+          λ c k.
+          zeros (homes t) (counter-home t c) 4 (ws .word (counter-home t c) 4) (G .counter-in c k) (omega arith);
     }
 
 accepted : (b : Bool) → _≡_ {A = Result (Unit {0}) Refusal} (cond b (Ok tt) (Err TooShort)) (Ok tt) → b ≡ true
 accepted true e = refl
 accepted false e = cc
 
-pub shows-start : (t : Tree) → Geometry t → (ws : Words) (rs : List Record) → laid-answer t ws rs ≡ Ok tt → Shows t (laid-words t ws rs) (laid-records t ws rs) fresh-lock
-shows-start t G ws rs e = let z : roomy t ws rs ≡ true = accepted (roomy t ws rs) e in subst (λ b. Shows t (cond b (cleared ws (homes t + 1)) ws) (cond b (idled rs (t .shape .ranks)) rs) fresh-lock) (sym z) (shows-cleared t G ws rs z)
+pub shows-start : (t : Tree) → Geometry t → (ws : Words) (rs : List Record) → laid-answer t ws rs ≡ Ok tt
+    → Shows t (laid-words t ws rs) (laid-records t ws rs) fresh-lock
+shows-start t G ws rs e =
+    let z : roomy t ws rs ≡ true = accepted (roomy t ws rs) e in
+    subst
+    (λ b. Shows t (cond b (cleared ws (homes t + 1)) ws) (cond b (idled rs (t .shape .ranks)) rs) fresh-lock)
+    (sym z)
+    (shows-cleared t G ws rs z)

@@ -21,7 +21,9 @@ turns f (suc n) = turns f n ++ (f n ∷ [])
 
 pub turns-same : (f g : ℕ → ℕ) (n : ℕ) → ((a : ℕ) → a < n → g a ≡ f a) → turns g n ≡ turns f n
 turns-same f g zero e = refl
-turns-same f g (suc n) e = ap (λ (l : List ℕ). l ++ (g n ∷ [])) (turns-same f g n (λ a l. e a (omega arith))) ∙ ap (λ x. turns f n ++ (x ∷ [])) (e n (omega arith))
+turns-same f g (suc n) e =
+    ap (λ (l : List ℕ). l ++ (g n ∷ [])) (turns-same f g n (λ a l. e a (omega arith)))
+    ∙ ap (λ x. turns f n ++ (x ∷ [])) (e n (omega arith))
 
 pub turns-length : (f : ℕ → ℕ) (n : ℕ) → length (turns f n) ≡ n
 turns-length f zero = refl
@@ -29,7 +31,16 @@ turns-length f (suc n) = length-append (turns f n) (f n ∷ []) ∙ (let z = tur
 
 pub turns-front : (f : ℕ → ℕ) (m n : ℕ) → m ≤ n → Front (turns f m) (turns f n)
 turns-front f m zero l = let z : m ≡ 0 = omega arith in ([], subst (λ x. turns f 0 ≡ turns f x ++ []) (sym z) refl)
-turns-front f m (suc n) l = ⊎-elim (λ (z : m ≡ suc n). ([], subst (λ x. turns f (suc n) ≡ turns f x ++ []) (sym z) (sym (append-nil (turns f (suc n)))))) (λ (z : m ≡ suc n → ⊥). let r = turns-front f m n (omega arith) in (r .0 ++ (f n ∷ []), ap (λ (y : List ℕ). y ++ (f n ∷ [])) (r .1) ∙ append-assoc (turns f m) (r .0) (f n ∷ []))) (cases-eq m (suc n))
+turns-front f m (suc n) l =
+    ⊎-elim
+    (λ (z : m ≡ suc n).
+    ([], subst (λ x. turns f (suc n) ≡ turns f x ++ []) (sym z) (sym (append-nil (turns f (suc n))))))
+    (λ (z : m ≡ suc n → ⊥).
+    let r = turns-front f m n (omega arith) in (
+      r .0 ++ (f n ∷ []),
+      ap (λ (y : List ℕ). y ++ (f n ∷ [])) (r .1) ∙ append-assoc (turns f m) (r .0) (f n ∷ []),
+    ))
+    (cases-eq m (suc n))
 
 -- the past, by turns
 pub record Traces (at : ℕ → ℕ → ℕ) (lo hi : ℕ → ℕ) (h : History) : Type 0 where
@@ -37,7 +48,8 @@ pub record Traces (at : ℕ → ℕ → ℕ) (lo hi : ℕ → ℕ) (h : History)
   pub came : (q : ℕ) → h .came q ≡ turns (at q) (min (suc (lo q)) (hi q))
   pub gone : (q : ℕ) → h .gone q ≡ turns (at q) (lo q)
 
-pub ordered : (at : ℕ → ℕ → ℕ) (lo hi : ℕ → ℕ) (h : History) → ((q : ℕ) → lo q ≤ hi q) → Traces at lo hi h → (q : ℕ) → Ordered h q
+pub ordered : (at : ℕ → ℕ → ℕ) (lo hi : ℕ → ℕ) (h : History) → ((q : ℕ) → lo q ≤ hi q) → Traces at lo hi h → (q : ℕ)
+    → Ordered h q
 ordered at lo hi h l t q =
     let le = l q in
     let a = turns-length (at q) (min (suc (lo q)) (hi q)) in
@@ -57,12 +69,34 @@ count-is f m n l e d = subst (λ k. l ≡ turns f k) e d
 
 module _ (at : ℕ → ℕ → ℕ) (lo hi : ℕ → ℕ) (h : History) (t : Traces at lo hi h) (k : ℕ) (le : lo k ≤ hi k) where
   -- a node joins; it holds at once if the queue was empty
-  pub traces-join : (x w : ℕ) → (w ≡ 0 → lo k ≡ hi k) → (w ≢ 0 → lo k < hi k) → Traces (upd at k (upd (at k) (hi k) x)) lo (upd hi k (suc (hi k))) (record { joined = more (h .joined) k x; came = cond (eqb w 0) (more (h .came) k x) (h .came); gone = h .gone })
-  traces-join x w empty full = record {
-      joined = split k (λ q. more (h .joined) k x q ≡ turns (upd at k F q) (upd hi k (suc (hi k)) q)) (rw (eq-eqb k k refl, upd-same at k F, upd-same hi k (suc (hi k))) (add F (hi k) (h .joined k) x (t .joined k ∙ sym same) here)) (λ q ne. rw (ne-eqb q k ne, upd-other at k F q ne, upd-other hi k (suc (hi k)) q ne) (t .joined q));
-      came = split k (λ q. cond (eqb w 0) (more (h .came) k x) (h .came) q ≡ turns (upd at k F q) (min (suc (lo q)) (upd hi k (suc (hi k)) q))) (rw (upd-same at k F, upd-same hi k (suc (hi k))) (⊎-elim (λ (z : w ≡ 0). first z) (λ (z : w ≡ 0 → ⊥). later z) (cases-eq w 0))) (λ q ne. rw (upd-other at k F q ne, upd-other hi k (suc (hi k)) q ne) (others q ne (eqb w 0)));
-      gone = split k (λ q. h .gone q ≡ turns (upd at k F q) (lo q)) (rw (upd-same at k F) (t .gone k ∙ sym (turns-same (at k) F (lo k) (λ a l. below a (omega arith))))) (λ q ne. rw (upd-other at k F q ne) (t .gone q));
-    }
+  pub traces-join : (x w : ℕ) → (w ≡ 0 → lo k ≡ hi k) → (w ≢ 0 → lo k < hi k)
+      → Traces (upd at k (upd (at k) (hi k) x)) lo (upd hi k (suc (hi k))) (record {
+        joined = more (h .joined) k x;
+        came = cond (eqb w 0) (more (h .came) k x) (h .came);
+        gone = h .gone;
+      })
+  traces-join x w empty full =
+      record {
+        joined =
+            split k
+            (λ q. more (h .joined) k x q ≡ turns (upd at k F q) (upd hi k (suc (hi k)) q))
+            (rw (eq-eqb k k refl, upd-same at k F, upd-same hi k (suc (hi k)))
+            (add F (hi k) (h .joined k) x (t .joined k ∙ sym same) here))
+            (λ q ne. rw (ne-eqb q k ne, upd-other at k F q ne, upd-other hi k (suc (hi k)) q ne) (t .joined q));
+        came =
+            split k
+            (λ q.
+            cond (eqb w 0) (more (h .came) k x) (h .came) q
+            ≡ turns (upd at k F q) (min (suc (lo q)) (upd hi k (suc (hi k)) q)))
+            (rw (upd-same at k F, upd-same hi k (suc (hi k)))
+            (⊎-elim (λ (z : w ≡ 0). first z) (λ (z : w ≡ 0 → ⊥). later z) (cases-eq w 0)))
+            (λ q ne. rw (upd-other at k F q ne, upd-other hi k (suc (hi k)) q ne) (others q ne (eqb w 0)));
+        gone =
+            split k
+            (λ q. h .gone q ≡ turns (upd at k F q) (lo q))
+            (rw (upd-same at k F) (t .gone k ∙ sym (turns-same (at k) F (lo k) (λ a l. below a (omega arith)))))
+            (λ q ne. rw (upd-other at k F q ne) (t .gone q));
+      }
     where
       F : ℕ → ℕ
       F = upd (at k) (hi k) x
@@ -77,27 +111,76 @@ module _ (at : ℕ → ℕ → ℕ) (lo hi : ℕ → ℕ) (h : History) (t : Tra
       same = turns-same (at k) F (hi k) below
 
       first : w ≡ 0 → cond (eqb w 0) (more (h .came) k x) (h .came) k ≡ turns F (min (suc (lo k)) (suc (hi k)))
-      first z = let e = empty z in rw (eq-eqb w 0 z, eq-eqb k k refl) (count-is F (suc (hi k)) (min (suc (lo k)) (suc (hi k))) (h .came k ++ (x ∷ [])) (omega arith) (add F (hi k) (h .came k) x (count-is (at k) (min (suc (lo k)) (hi k)) (hi k) (h .came k) (omega arith) (t .came k) ∙ sym same) here))
+      first z =
+          let e = empty z in
+          rw (eq-eqb w 0 z, eq-eqb k k refl)
+          (count-is F (suc (hi k)) (min (suc (lo k)) (suc (hi k))) (h .came k ++ (x ∷ [])) (omega arith)
+          (add F (hi k) (h .came k) x
+          (count-is (at k) (min (suc (lo k)) (hi k)) (hi k) (h .came k) (omega arith) (t .came k)
+          ∙ sym same)
+          here))
 
       later : (w ≡ 0 → ⊥) → cond (eqb w 0) (more (h .came) k x) (h .came) k ≡ turns F (min (suc (lo k)) (suc (hi k)))
-      later z = let e = full z in rw (ne-eqb w 0 z) (count-is F (suc (lo k)) (min (suc (lo k)) (suc (hi k))) (h .came k) (omega arith) (count-is (at k) (min (suc (lo k)) (hi k)) (suc (lo k)) (h .came k) (omega arith) (t .came k) ∙ sym (turns-same (at k) F (suc (lo k)) (λ a l. below a (omega arith)))))
+      later z =
+          let e = full z in
+          rw (ne-eqb w 0 z)
+          (count-is F (suc (lo k)) (min (suc (lo k)) (suc (hi k))) (h .came k) (omega arith)
+          (count-is (at k) (min (suc (lo k)) (hi k)) (suc (lo k)) (h .came k) (omega arith) (t .came k)
+          ∙ sym (turns-same (at k) F (suc (lo k)) (λ a l. below a (omega arith)))))
 
-      others : (q : ℕ) → q ≢ k → (b : Bool) → cond b (more (h .came) k x) (h .came) q ≡ turns (at q) (min (suc (lo q)) (hi q))
+      others : (q : ℕ) → q ≢ k → (b : Bool)
+          → cond b (more (h .came) k x) (h .came) q ≡ turns (at q) (min (suc (lo q)) (hi q))
       others q ne true = rw (ne-eqb q k ne) (t .came q)
       others q ne false = t .came q
 
   -- the head hands over to the next
-  pub traces-pass : (x y : ℕ) → suc (lo k) < hi k → at k (lo k) ≡ x → at k (suc (lo k)) ≡ y → Traces at (upd lo k (suc (lo k))) hi (record { joined = h .joined; came = more (h .came) k y; gone = more (h .gone) k x })
-  traces-pass x y l e d = record {
-    joined = t .joined;
-    came = split k (λ q. more (h .came) k y q ≡ turns (at q) (min (suc (upd lo k (suc (lo k)) q)) (hi q))) (rw (eq-eqb k k refl, upd-same lo k (suc (lo k))) (count-is (at k) (suc (suc (lo k))) (min (suc (suc (lo k))) (hi k)) (h .came k ++ (y ∷ [])) (omega arith) (add (at k) (suc (lo k)) (h .came k) y (count-is (at k) (min (suc (lo k)) (hi k)) (suc (lo k)) (h .came k) (omega arith) (t .came k)) d))) (λ q ne. rw (ne-eqb q k ne, upd-other lo k (suc (lo k)) q ne) (t .came q));
-    gone = split k (λ q. more (h .gone) k x q ≡ turns (at q) (upd lo k (suc (lo k)) q)) (rw (eq-eqb k k refl, upd-same lo k (suc (lo k))) (add (at k) (lo k) (h .gone k) x (t .gone k) e)) (λ q ne. rw (ne-eqb q k ne, upd-other lo k (suc (lo k)) q ne) (t .gone q));
-    }
+  pub traces-pass : (x y : ℕ) → suc (lo k) < hi k → at k (lo k) ≡ x → at k (suc (lo k)) ≡ y
+      → Traces at (upd lo k (suc (lo k))) hi (record {
+        joined = h .joined;
+        came = more (h .came) k y;
+        gone = more (h .gone) k x;
+      })
+  traces-pass x y l e d =
+      record {
+        joined = t .joined;
+        came =
+            split k
+            (λ q. more (h .came) k y q ≡ turns (at q) (min (suc (upd lo k (suc (lo k)) q)) (hi q)))
+            (rw (eq-eqb k k refl, upd-same lo k (suc (lo k)))
+            (count-is (at k) (suc (suc (lo k))) (min (suc (suc (lo k))) (hi k)) (h .came k ++ (y ∷ []))
+            (omega arith)
+            (add (at k) (suc (lo k)) (h .came k) y
+            (count-is (at k) (min (suc (lo k)) (hi k)) (suc (lo k)) (h .came k)
+            (omega arith) (t .came k))
+            d)))
+            (λ q ne. rw (ne-eqb q k ne, upd-other lo k (suc (lo k)) q ne) (t .came q));
+        gone =
+            split k
+            (λ q. more (h .gone) k x q ≡ turns (at q) (upd lo k (suc (lo k)) q))
+            (rw (eq-eqb k k refl, upd-same lo k (suc (lo k))) (add (at k) (lo k) (h .gone k) x (t .gone k) e))
+            (λ q ne. rw (ne-eqb q k ne, upd-other lo k (suc (lo k)) q ne) (t .gone q));
+      }
 
   -- the head goes, and nobody is behind it
-  pub traces-free : (x : ℕ) → suc (lo k) ≡ hi k → at k (lo k) ≡ x → Traces at (upd lo k (suc (lo k))) hi (record { joined = h .joined; came = h .came; gone = more (h .gone) k x })
-  traces-free x l e = record {
-    joined = t .joined;
-    came = split k (λ q. h .came q ≡ turns (at q) (min (suc (upd lo k (suc (lo k)) q)) (hi q))) (rw (upd-same lo k (suc (lo k))) (count-is (at k) (min (suc (lo k)) (hi k)) (min (suc (suc (lo k))) (hi k)) (h .came k) (omega arith) (t .came k))) (λ q ne. rw (upd-other lo k (suc (lo k)) q ne) (t .came q));
-    gone = split k (λ q. more (h .gone) k x q ≡ turns (at q) (upd lo k (suc (lo k)) q)) (rw (eq-eqb k k refl, upd-same lo k (suc (lo k))) (add (at k) (lo k) (h .gone k) x (t .gone k) e)) (λ q ne. rw (ne-eqb q k ne, upd-other lo k (suc (lo k)) q ne) (t .gone q));
-    }
+  pub traces-free : (x : ℕ) → suc (lo k) ≡ hi k → at k (lo k) ≡ x
+      → Traces at (upd lo k (suc (lo k))) hi (record {
+        joined = h .joined;
+        came = h .came;
+        gone = more (h .gone) k x;
+      })
+  traces-free x l e =
+      record {
+        joined = t .joined;
+        came =
+            split k
+            (λ q. h .came q ≡ turns (at q) (min (suc (upd lo k (suc (lo k)) q)) (hi q)))
+            (rw (upd-same lo k (suc (lo k)))
+            (count-is (at k) (min (suc (lo k)) (hi k)) (min (suc (suc (lo k))) (hi k)) (h .came k)
+            (omega arith) (t .came k)))
+            (λ q ne. rw (upd-other lo k (suc (lo k)) q ne) (t .came q));
+        gone =
+            split k
+            (λ q. more (h .gone) k x q ≡ turns (at q) (upd lo k (suc (lo k)) q))
+            (rw (eq-eqb k k refl, upd-same lo k (suc (lo k))) (add (at k) (lo k) (h .gone k) x (t .gone k) e))
+            (λ q ne. rw (ne-eqb q k ne, upd-other lo k (suc (lo k)) q ne) (t .gone q));
+      }

@@ -5,9 +5,13 @@ use mathlib.Core.Logic.{_⊎_, inl, inr, _≢_, ⊎-elim}
 use mathlib.Core.Bool.{Bool, true, false, cond}
 use lib.Dec.{eqb, leb, ltb}
 use native.Mathlib.Omega.{arith}
-use Rattle.std.proofs.shelf.Tests.{cases-eq, cond-both, eq-eqb, ne-eqb, le-leb, lt-leb, leb-true, leb-false, eqb-false, ltb-true, ltb-false}
-use Rattle.queues.specs.Machine.{Tree, Lawful, On, Phase, out, fresh, clean, ready, link, wait, hold, give, level, InRange, Waits, State, Inv, Holder, Member, Heads, Behind, Waiting}
-use Rattle.queues.specs.Rows.{Place, idle, W1, W2, W3, W4, W5, W6, W7, W8, W9, U1, U2, U3, U4, U5, U6, U7, U8, U9, U10, R1, R2, R3, R4, R5, R6, R7, writes, reads, WAIT, tell, Plan, Lock, upd, phase, go, row, done, next}
+use Rattle.std.proofs.shelf.Tests.{cases-eq, cond-both, eq-eqb, ne-eqb, le-leb, lt-leb, leb-true, leb-false}
+use Rattle.std.proofs.shelf.Tests.{eqb-false, ltb-true, ltb-false}
+use Rattle.queues.specs.Machine.{Tree, Lawful, On, Phase, out, fresh, clean, ready, link, wait, hold, give, level}
+use Rattle.queues.specs.Machine.{InRange, Waits, State, Inv, Holder, Member, Heads, Behind, Waiting}
+use Rattle.queues.specs.Rows.{Place, idle, W1, W2, W3, W4, W5, W6, W7, W8, W9, U1, U2, U3, U4, U5, U6, U7, U8, U9}
+use Rattle.queues.specs.Rows.{U10, R1, R2, R3, R4, R5, R6, R7, writes, reads, WAIT, tell, Plan, Lock, upd, phase, go}
+use Rattle.queues.specs.Rows.{row, done, next}
 use Rattle.queues.specs.Counters
 use Rattle.queues.specs.Counters.{total, tries, clears, Tally, Counted}
 use Rattle.queues.proofs.Base.{asked, waits-cases, turn-is}
@@ -32,13 +36,19 @@ pub record Mover (T : Tree) (s : State) : Type 0 where
   pub free : (i : ℕ) → s .ph rank ≢ wait i
 
 -- whoever waits, somebody holds what it waits for; who waits in turn waits higher up
-onward : (T : Tree) → Lawful T → (s : State) → Inv T s → (d i p : ℕ) → i ≤ suc d → s .ph p ≡ wait i → ((j q : ℕ) → j ≤ d → s .ph q ≡ wait j → Mover T s) → Mover T s
+onward : (T : Tree) → Lawful T → (s : State) → Inv T s → (d i p : ℕ) → i ≤ suc d → s .ph p ≡ wait i
+    → ((j q : ℕ) → j ≤ d → s .ph q ≡ wait j → Mover T s) → Mover T s
 onward T G s v d i p l e again =
     let b : Behind T s p i = asked T s v p (wait i) e .spot in
     let on : On (T .top p) i = subst (InRange (T .top p)) e (v .range p) in
     let h : Holder T s (T .elem p i) = v .holder (T .elem p i) (omega (arith, b .low, b .high)) in
     let same : h .lvl ≡ i = G .level-of (h .rank) p (h .lvl) i (h .on) on (h .queue) in
-    ⊎-elim (λ (w : (j : ℕ) × (s .ph (h .rank) ≡ wait j)). again (w .0) (h .rank) (omega (arith, h .holds, ap (level (T .top (h .rank))) (w .1))) (w .1)) (λ (w : (j : ℕ) → s .ph (h .rank) ≢ wait j). record { rank = h .rank; holds = omega (arith, h .holds, h .on); free = w }) (waits-or (s .ph (h .rank)))
+    ⊎-elim
+    (λ (w : (j : ℕ) × (s .ph (h .rank) ≡ wait j)).
+    again (w .0) (h .rank) (omega (arith, h .holds, ap (level (T .top (h .rank))) (w .1))) (w .1))
+    (λ (w : (j : ℕ) → s .ph (h .rank) ≢ wait j).
+    record { rank = h .rank; holds = omega (arith, h .holds, h .on); free = w })
+    (waits-or (s .ph (h .rank)))
 
 pub mover : (T : Tree) → Lawful T → (s : State) → Inv T s → (d i p : ℕ) → i ≤ d → s .ph p ≡ wait i → Mover T s
 mover T G s v zero i p l e = let o : On (T .top p) i = subst (InRange (T .top p)) e (v .range p) in absurd (omega arith)
@@ -123,10 +133,17 @@ module _ (L : Plan) (s : Lock) (p : ℕ) where
   to m s₁ f h = rw (upd-same (s₁ .place) p f) h
 
   done-below : (i m : ℕ) → On N i → 3 * (N - i) + 2 ≤ m → Below m (done L s p i)
-  done-below i m on l = cond-both (eqb i N) idle (U8 (suc i)) (Below m) (λ _. omega arith) (λ z. let ne : i ≢ N = eqb-false i N z in omega arith)
+  done-below i m on l =
+      cond-both (eqb i N) idle (U8 (suc i)) (Below m)
+      (λ _. omega arith)
+      (λ z. let ne : i ≢ N = eqb-false i N z in omega arith)
 
-  next-below : (k m : ℕ) (end : Place) (more : ℕ → Place) → (suc k < C → Below m (more (suc k))) → (C ≤ suc k → Below m end) → Below m (next L s p k end more)
-  next-below k m end more a b = cond-both (ltb (suc k) C) (more (suc k)) end (Below m) (λ z. a (ltb-true (suc k) C z)) (λ z. b (ltb-false (suc k) C z))
+  next-below : (k m : ℕ) (end : Place) (more : ℕ → Place) → (suc k < C → Below m (more (suc k)))
+      → (C ≤ suc k → Below m end) → Below m (next L s p k end more)
+  next-below k m end more a b =
+      cond-both (ltb (suc k) C) (more (suc k)) end (Below m)
+      (λ z. a (ltb-true (suc k) C z))
+      (λ z. b (ltb-false (suc k) C z))
 
   choice : (m : ℕ) (b d : Bool) (f g : Place) → Below m f → Below m g → Below m (cond b f (cond d g f))
   choice m true d f g x y = x
@@ -137,24 +154,68 @@ module _ (L : Plan) (s : Lock) (p : ℕ) where
   falls idle a = absurd a
   falls (W1 i) a = to (ahead N C (W1 i)) s (W2 i) (omega arith)
   falls (W2 i) a = to (ahead N C (W2 i)) s (W3 i) (omega arith)
-  falls (W3 i) a = to (ahead N C (W3 i)) s (cond (eqb (s .tl (L .tree .elem p i)) 0) (W6 i) (W4 i (s .tl (L .tree .elem p i)))) (cond-both (eqb (s .tl (L .tree .elem p i)) 0) (W6 i) (W4 i (s .tl (L .tree .elem p i))) (Below (ahead N C (W3 i))) (λ _. omega arith) (λ _. omega arith))
+  falls (W3 i) a =
+      to (ahead N C (W3 i)) s (cond (eqb (s .tl (L .tree .elem p i)) 0) (W6 i) (W4 i (s .tl (L .tree .elem p i))))
+      (cond-both (eqb (s .tl (L .tree .elem p i)) 0) (W6 i) (W4 i (s .tl (L .tree .elem p i)))
+      (Below (ahead N C (W3 i)))
+      (λ _. omega arith)
+      (λ _. omega arith))
   falls (W4 i t) a = to (ahead N C (W4 i t)) s (W5 i) (omega arith)
-  falls (W5 i) (inl a) = let w = s .st (L .tree .node p i) in rw (ne-eqb w WAIT (omega arith), le-leb w 1000 a) (to (ahead N C (W5 i)) s writes (omega arith))
-  falls (W5 i) (inr a) = let w = s .st (L .tree .node p i) in let b : (WAIT < tell i) × (1000 < tell i) = tell-big i in rw (ne-eqb w WAIT (omega arith), lt-leb w 1000 (omega arith), eq-eqb w (tell i) a) (to (ahead N C (W5 i)) s (W6 i) (omega arith))
-  falls (W6 i) a = to (ahead N C (W6 i)) s (cond (leb 2 i) (W1 (pred i)) (W7 0)) (cond-both (leb 2 i) (W1 (pred i)) (W7 0) (Below (ahead N C (W6 i))) (λ z. omega (arith, leb-true 2 i z)) (λ _. omega arith))
-  falls (W7 k) a = to (ahead N C (W7 k)) s (next L s p k (W8 0) W7) (next-below k (ahead N C (W7 k)) (W8 0) W7 (λ z. omega arith) (λ z. omega arith))
+  falls (W5 i) (inl a) =
+      let w = s .st (L .tree .node p i) in
+      rw (ne-eqb w WAIT (omega arith), le-leb w 1000 a) (to (ahead N C (W5 i)) s writes (omega arith))
+  falls (W5 i) (inr a) =
+      let w = s .st (L .tree .node p i) in
+      let b : (WAIT < tell i) × (1000 < tell i) = tell-big i in
+      rw (ne-eqb w WAIT (omega arith), lt-leb w 1000 (omega arith), eq-eqb w (tell i) a)
+      (to (ahead N C (W5 i)) s (W6 i) (omega arith))
+  falls (W6 i) a =
+      to (ahead N C (W6 i)) s (cond (leb 2 i) (W1 (pred i)) (W7 0))
+      (cond-both (leb 2 i) (W1 (pred i)) (W7 0) (Below (ahead N C (W6 i)))
+      (λ z. omega (arith, leb-true 2 i z))
+      (λ _. omega arith))
+  falls (W7 k) a =
+      to (ahead N C (W7 k)) s (next L s p k (W8 0) W7)
+      (next-below k (ahead N C (W7 k)) (W8 0) W7 (λ z. omega arith) (λ z. omega arith))
   falls (W8 k) a = to (ahead N C (W8 k)) s (W9 k (s .ar k)) (omega arith)
-  falls (W9 k n) a = rw (eq-eqb n (2 ^ 62 + s .de k) (a .1)) (to (ahead N C (W9 k n)) s (next L s p k writes W8) (next-below k (ahead N C (W9 k n)) writes W8 (λ z. omega arith) (λ z. omega arith)))
+  falls (W9 k n) a =
+      rw (eq-eqb n (2 ^ 62 + s .de k) (a .1))
+      (to (ahead N C (W9 k n)) s (next L s p k writes W8)
+      (next-below k (ahead N C (W9 k n)) writes W8 (λ z. omega arith) (λ z. omega arith)))
   falls (U1 i) a = to (ahead N C (U1 i)) s (U2 i (s .st (L .tree .node p i))) (omega arith)
-  falls (U2 i n) a = to (ahead N C (U2 i n)) s (cond (eqb (s .nx (L .tree .node p i)) 0) (cond (leb i 2) U4 (U1 (pred i))) (cond (ltb n (L .cap p i)) (U3 i (s .nx (L .tree .node p i)) (suc n)) (cond (leb i 2) U4 (U1 (pred i))))) (choice (ahead N C (U2 i n)) (eqb (s .nx (L .tree .node p i)) 0) (ltb n (L .cap p i)) (cond (leb i 2) U4 (U1 (pred i))) (U3 i (s .nx (L .tree .node p i)) (suc n)) (cond-both (leb i 2) U4 (U1 (pred i)) (Below (ahead N C (U2 i n))) (λ z. omega arith) (λ z. omega arith)) (omega arith))
+  falls (U2 i n) a =
+      to (ahead N C (U2 i n)) s
+      (cond (eqb (s .nx (L .tree .node p i)) 0) (cond (leb i 2) U4 (U1 (pred i)))
+      (cond (ltb n (L .cap p i)) (U3 i (s .nx (L .tree .node p i)) (suc n))
+      (cond (leb i 2) U4 (U1 (pred i)))))
+      (choice (ahead N C (U2 i n)) (eqb (s .nx (L .tree .node p i)) 0) (ltb n (L .cap p i))
+      (cond (leb i 2) U4 (U1 (pred i))) (U3 i (s .nx (L .tree .node p i)) (suc n))
+      (cond-both (leb i 2) U4 (U1 (pred i)) (Below (ahead N C (U2 i n)))
+      (λ z. omega arith)
+      (λ z. omega arith))
+      (omega arith))
   falls (U3 i t n) a = to (ahead N C (U3 i t n)) s (done L s p i) (done-below i (ahead N C (U3 i t n)) a (omega arith))
   falls U4 a = to (ahead N C U4) s (U5 (s .st (L .tree .node p 1))) (omega arith)
-  falls (U5 n) a = to (ahead N C (U5 n)) s (cond (eqb (s .nx (L .tree .node p 1)) 0) (U6 0) (cond (ltb n (L .cap p 1)) (U3 1 (s .nx (L .tree .node p 1)) (suc n)) (U6 0))) (choice (ahead N C (U5 n)) (eqb (s .nx (L .tree .node p 1)) 0) (ltb n (L .cap p 1)) (U6 0) (U3 1 (s .nx (L .tree .node p 1)) (suc n)) (omega arith) (omega arith))
+  falls (U5 n) a =
+      to (ahead N C (U5 n)) s
+      (cond (eqb (s .nx (L .tree .node p 1)) 0) (U6 0)
+      (cond (ltb n (L .cap p 1)) (U3 1 (s .nx (L .tree .node p 1)) (suc n)) (U6 0)))
+      (choice (ahead N C (U5 n)) (eqb (s .nx (L .tree .node p 1)) 0) (ltb n (L .cap p 1)) (U6 0)
+      (U3 1 (s .nx (L .tree .node p 1)) (suc n)) (omega arith) (omega arith))
   falls (U6 k) a = to (ahead N C (U6 k)) s (U7 k (s .de k)) (omega arith)
-  falls (U7 k n) a = to (ahead N C (U7 k n)) s (next L s p k (U8 1) U6) (next-below k (ahead N C (U7 k n)) (U8 1) U6 (λ z. omega arith) (λ z. omega arith))
-  falls (U8 i) a = to (ahead N C (U8 i)) s (cond (eqb (s .nx (L .tree .node p i)) 0) (U10 i) (U9 i (s .nx (L .tree .node p i)))) (cond-both (eqb (s .nx (L .tree .node p i)) 0) (U10 i) (U9 i (s .nx (L .tree .node p i))) (Below (ahead N C (U8 i))) (λ _. omega arith) (λ _. omega arith))
+  falls (U7 k n) a =
+      to (ahead N C (U7 k n)) s (next L s p k (U8 1) U6)
+      (next-below k (ahead N C (U7 k n)) (U8 1) U6 (λ z. omega arith) (λ z. omega arith))
+  falls (U8 i) a =
+      to (ahead N C (U8 i)) s (cond (eqb (s .nx (L .tree .node p i)) 0) (U10 i) (U9 i (s .nx (L .tree .node p i))))
+      (cond-both (eqb (s .nx (L .tree .node p i)) 0) (U10 i) (U9 i (s .nx (L .tree .node p i)))
+      (Below (ahead N C (U8 i)))
+      (λ _. omega arith)
+      (λ _. omega arith))
   falls (U9 i t) a = to (ahead N C (U9 i t)) s (done L s p i) (done-below i (ahead N C (U9 i t)) a (omega arith))
-  falls (U10 i) a = rw (eq-eqb (s .tl (L .tree .elem p i)) (L .tree .node p i) (a .1)) (to (ahead N C (U10 i)) s (done L s p i) (done-below i (ahead N C (U10 i)) (a .0) (omega arith)))
+  falls (U10 i) a =
+      rw (eq-eqb (s .tl (L .tree .elem p i)) (L .tree .node p i) (a .1))
+      (to (ahead N C (U10 i)) s (done L s p i) (done-below i (ahead N C (U10 i)) (a .0) (omega arith)))
   falls R1 a = absurd a
   falls R2 a = absurd a
   falls R3 a = absurd a
@@ -171,7 +232,8 @@ pub record Follower (T : Tree) (s : State) (p i : ℕ) : Type 0 where
   pub on : On (T .top rank) i
   pub how : ((s .ph rank ≡ wait i) × (s .nx (T .node p i) ≡ T .node rank i)) ⊎ (s .ph rank ≡ link i (T .node p i))
 
-pub follower : (T : Tree) (G : Lawful T) (s : State) (v : Inv T s) (p i : ℕ) → s .ph p ≡ hold i → s .tl (T .elem p i) ≢ T .node p i → Follower T s p i
+pub follower : (T : Tree) (G : Lawful T) (s : State) (v : Inv T s) (p i : ℕ) → s .ph p ≡ hold i
+    → s .tl (T .elem p i) ≢ T .node p i → Follower T s p i
 follower T G s v p i e ne = found (v .member k (s .lo k) (omega arith) more)
   where
     k : ℕ
@@ -184,10 +246,19 @@ follower T G s v p i e ne = found (v .member k (s .lo k) (omega arith) more)
     hd = v .heads p i on (omega (arith, ap (level (T .top p)) e))
 
     more : suc (s .lo k) < s .hi k
-    more = ⊎-elim (λ (z : suc (s .lo k) ≡ s .hi k). absurd (ne (v .tail k (s .lo k) (omega arith) z ∙ hd .is))) (λ (z : suc (s .lo k) ≡ s .hi k → ⊥). omega (arith, hd .some)) (cases-eq (suc (s .lo k)) (s .hi k))
+    more =
+        ⊎-elim
+        (λ (z : suc (s .lo k) ≡ s .hi k). absurd (ne (v .tail k (s .lo k) (omega arith) z ∙ hd .is)))
+        (λ (z : suc (s .lo k) ≡ s .hi k → ⊥). omega (arith, hd .some))
+        (cases-eq (suc (s .lo k)) (s .hi k))
 
     found : Member T s k (suc (s .lo k)) → Follower T s p i
-    found m = record { rank = m .rank; on = omega (arith, same, m .on); how = by (waits-cases (s .ph (m .rank)) i (subst (Waits (s .ph (m .rank))) same (m .waits))) }
+    found m =
+        record {
+          rank = m .rank;
+          on = omega (arith, same, m .on);
+          how = by (waits-cases (s .ph (m .rank)) i (subst (Waits (s .ph (m .rank))) same (m .waits)));
+        }
       where
         same : m .lvl ≡ i
         same = G .level-of (m .rank) p (m .lvl) i (m .on) on (m .queue)
@@ -196,20 +267,39 @@ follower T G s v p i e ne = found (v .member k (s .lo k) (omega arith) more)
         queue = ap (T .elem (m .rank)) (sym same) ∙ m .queue
 
         here : (b : Behind T s (m .rank) i) → s .at (T .elem (m .rank) i) (b .turn) ≡ T .node p i
-        here b = rw (queue, turn-is T G s v k (s .lo k) (m .rank) i queue (omega arith) more (m .is ∙ ap (T .node (m .rank)) same) b) (hd .is)
+        here b =
+            rw (
+              queue,
+              turn-is T G s v k (s .lo k) (m .rank) i queue (omega arith) more
+                  (m .is ∙ ap (T .node (m .rank)) same) b,
+            )
+            (hd .is)
 
-        by : (s .ph (m .rank) ≡ wait i) ⊎ ((u : ℕ) × (s .ph (m .rank) ≡ link i u)) → ((s .ph (m .rank) ≡ wait i) × (s .nx (T .node p i) ≡ T .node (m .rank) i)) ⊎ (s .ph (m .rank) ≡ link i (T .node p i))
+        by : (s .ph (m .rank) ≡ wait i) ⊎ ((u : ℕ) × (s .ph (m .rank) ≡ link i u))
+            → ((s .ph (m .rank) ≡ wait i) × (s .nx (T .node p i) ≡ T .node (m .rank) i))
+            ⊎ (s .ph (m .rank) ≡ link i (T .node p i))
         by (inl w) = let a = asked T s v (m .rank) (wait i) w in inl (w, ap (s .nx) (sym (here (a .spot))) ∙ a .linked)
-        by (inr w) = let a = asked T s v (m .rank) (link i (w .0)) (w .1) in inr (w .1 ∙ ap (link i) (a .target ∙ here (a .spot)))
+        by (inr w) =
+            let a = asked T s v (m .rank) (link i (w .0)) (w .1) in
+            inr (w .1 ∙ ap (link i) (a .target ∙ here (a .spot)))
 
 -- while no rank carries anything of the counter k and its bit stands, W8 and W9 pass
-pub passes : (P C TR : ℕ) (s : Tally) → Counted P C TR s → (k : ℕ) → k < C → s .bit k ≡ 1 → ((q : ℕ) → On P q → (tries (s .load q) k ≡ 0) × (Counters.reads (s .load q) k ≡ 0) × (clears (s .load q) k ≡ 0)) → s .ar k ≡ 2 ^ 62 + s .de k
+pub passes : (P C TR : ℕ) (s : Tally) → Counted P C TR s → (k : ℕ) → k < C → s .bit k ≡ 1
+    → ((q : ℕ) → On P q → (tries (s .load q) k ≡ 0) × (Counters.reads (s .load q) k ≡ 0) × (clears (s .load q) k ≡ 0))
+    → s .ar k ≡ 2 ^ 62 + s .de k
 passes P C TR s v k l b h =
-    let x : total P (λ q. tries (s .load q) k) ≡ 0 = total-same P (λ q. 0) (λ q. tries (s .load q) k) (λ q a b. h q (record { from = a; upto = b }) .0) ∙ total-zero P in
-    let y : total P (λ q. Counters.reads (s .load q) k) ≡ 0 = total-same P (λ q. 0) (λ q. Counters.reads (s .load q) k) (λ q a b. h q (record { from = a; upto = b }) .1) ∙ total-zero P in
-    let z : total P (λ q. clears (s .load q) k) ≡ 0 = total-same P (λ q. 0) (λ q. clears (s .load q) k) (λ q a b. h q (record { from = a; upto = b }) .2) ∙ total-zero P in
+    let x : total P (λ q. tries (s .load q) k) ≡ 0 =
+    total-same P (λ q. 0) (λ q. tries (s .load q) k) (λ q a b. h q (record { from = a; upto = b }) .0)
+    ∙ total-zero P in
+    let y : total P (λ q. Counters.reads (s .load q) k) ≡ 0 =
+    total-same P (λ q. 0) (λ q. Counters.reads (s .load q) k) (λ q a b. h q (record { from = a; upto = b }) .1)
+    ∙ total-zero P in
+    let z : total P (λ q. clears (s .load q) k) ≡ 0 =
+    total-same P (λ q. 0) (λ q. clears (s .load q) k) (λ q a b. h q (record { from = a; upto = b }) .2)
+    ∙ total-zero P in
     omega (arith, v .each k l .sum)
 
 -- the sum of the numbers falls where one rank's falls: only its own place changes in its row
-pub sum-falls : (n : ℕ) (f g : ℕ → ℕ) (p : ℕ) → On n p → ((q : ℕ) → q ≢ p → g q ≡ f q) → g p < f p → total n g < total n f
+pub sum-falls : (n : ℕ) (f g : ℕ → ℕ) (p : ℕ) → On n p → ((q : ℕ) → q ≢ p → g q ≡ f q) → g p < f p
+    → total n g < total n f
 sum-falls n f g p on e l = omega (arith, total-swap n f g p on e)

@@ -4,7 +4,8 @@ use mathlib.Core.Path.{_≡_, refl, sym, _∙_, ap, subst, subst₂}
 use mathlib.Core.Logic.{_⊎_, inl, inr, _≢_, ⊎-elim}
 use native.Mathlib.Omega.{arith}
 use Rattle.std.proofs.shelf.Tests.{cases-eq}
-use Rattle.queues.specs.Machine.{Tree, Lawful, On, Phase, out, fresh, clean, ready, link, wait, hold, give, level, InRange, Waits, State, Inv, Holder, Member, Heads, Behind, Linking, Waiting, Asks}
+use Rattle.queues.specs.Machine.{Tree, Lawful, On, Phase, out, fresh, clean, ready, link, wait, hold, give, level}
+use Rattle.queues.specs.Machine.{InRange, Waits, State, Inv, Holder, Member, Heads, Behind, Linking, Waiting, Asks}
 
 pub range-of : (f : Phase) (top : ℕ) → InRange top f → (g : Phase) → f ≡ g → InRange top g
 range-of f top h g e = subst (λ (x : Phase). InRange top x) e h
@@ -63,23 +64,43 @@ waits-cases (give h j t) i w = absurd w
 
 module _ (T : Tree) (G : Lawful T) (s : State) (v : Inv T s) where
   -- two ranks that hold one element have one node there
-  pub one-head : (p r i : ℕ) → On (T .top p) i → On (T .top r) i → level (T .top p) (s .ph p) ≤ i → level (T .top r) (s .ph r) ≤ i → T .elem p i ≡ T .elem r i → T .node p i ≡ T .node r i
+  pub one-head : (p r i : ℕ) → On (T .top p) i → On (T .top r) i → level (T .top p) (s .ph p) ≤ i
+      → level (T .top r) (s .ph r) ≤ i → T .elem p i ≡ T .elem r i → T .node p i ≡ T .node r i
   one-head p r i on on′ h h′ e = sym (v .heads p i on h .is) ∙ (ap (λ k. s .at k (s .lo k)) e ∙ v .heads r i on′ h′ .is)
 
   -- two ranks that hold one element are one rank: down to the leaf
-  one-holder-by : (d p r i : ℕ) → i + d ≡ T .top p → On (T .top p) i → On (T .top r) i → level (T .top p) (s .ph p) ≤ i → level (T .top r) (s .ph r) ≤ i → T .elem p i ≡ T .elem r i → p ≡ r
-  one-holder-by zero p r i room on on′ h h′ e = ⊎-elim (λ (q : p ≡ r). q) (λ (q : (i < T .top p) × (i < T .top r) × (T .elem p (suc i) ≡ T .elem r (suc i))). absurd (omega arith)) (G .below p r i on on′ (one-head p r i on on′ h h′ e))
-  one-holder-by (suc d) p r i room on on′ h h′ e = ⊎-elim (λ (q : p ≡ r). q) (λ (q : (i < T .top p) × (i < T .top r) × (T .elem p (suc i) ≡ T .elem r (suc i))). one-holder-by d p r (suc i) (omega arith) (omega arith) (omega arith) (omega arith) (omega arith) (q .2)) (G .below p r i on on′ (one-head p r i on on′ h h′ e))
+  one-holder-by : (d p r i : ℕ) → i + d ≡ T .top p → On (T .top p) i → On (T .top r) i
+      → level (T .top p) (s .ph p) ≤ i → level (T .top r) (s .ph r) ≤ i → T .elem p i ≡ T .elem r i → p ≡ r
+  one-holder-by zero p r i room on on′ h h′ e =
+      ⊎-elim
+      (λ (q : p ≡ r). q)
+      (λ (q : (i < T .top p) × (i < T .top r) × (T .elem p (suc i) ≡ T .elem r (suc i))). absurd (omega arith))
+      (G .below p r i on on′ (one-head p r i on on′ h h′ e))
+  one-holder-by (suc d) p r i room on on′ h h′ e =
+      ⊎-elim
+      (λ (q : p ≡ r). q)
+      (λ (q : (i < T .top p) × (i < T .top r) × (T .elem p (suc i) ≡ T .elem r (suc i))).
+      one-holder-by d p r (suc i) (omega arith) (omega arith) (omega arith) (omega arith) (omega arith)
+      (q .2))
+      (G .below p r i on on′ (one-head p r i on on′ h h′ e))
 
-  pub one-holder : (p r i : ℕ) → On (T .top p) i → On (T .top r) i → level (T .top p) (s .ph p) ≤ i → level (T .top r) (s .ph r) ≤ i → T .elem p i ≡ T .elem r i → p ≡ r
+  pub one-holder : (p r i : ℕ) → On (T .top p) i → On (T .top r) i → level (T .top p) (s .ph p) ≤ i
+      → level (T .top r) (s .ph r) ≤ i → T .elem p i ≡ T .elem r i → p ≡ r
   one-holder p r i on on′ h h′ e = one-holder-by (T .top p - i) p r i (omega arith) on on′ h h′ e
 
   -- a node is used by one rank: two ranks that hold all below it are one
-  pub one-owner : (p r i j : ℕ) → On (T .top p) i → On (T .top r) j → level (T .top p) (s .ph p) ≤ suc i → level (T .top r) (s .ph r) ≤ suc j → T .node p i ≡ T .node r j → (p ≡ r) × (i ≡ j)
+  pub one-owner : (p r i j : ℕ) → On (T .top p) i → On (T .top r) j → level (T .top p) (s .ph p) ≤ suc i
+      → level (T .top r) (s .ph r) ≤ suc j → T .node p i ≡ T .node r j → (p ≡ r) × (i ≡ j)
   one-owner p r i j on on′ h h′ e =
       let same : i ≡ j = G .queue-of p r i j on on′ e .0 in
-      let on″ : On (T .top r) i = omega arith in
-      (⊎-elim (λ (q : p ≡ r). q) (λ (q : (i < T .top p) × (i < T .top r) × (T .elem p (suc i) ≡ T .elem r (suc i))). one-holder p r (suc i) (omega arith) (omega arith) (omega arith) (omega arith) (q .2)) (G .below p r i on on″ (e ∙ ap (T .node r) (sym same))), same)
+      let on″ : On (T .top r) i = omega arith in (
+        ⊎-elim
+            (λ (q : p ≡ r). q)
+            (λ (q : (i < T .top p) × (i < T .top r) × (T .elem p (suc i) ≡ T .elem r (suc i))).
+            one-holder p r (suc i) (omega arith) (omega arith) (omega arith) (omega arith) (q .2))
+            (G .below p r i on on″ (e ∙ ap (T .node r) (sym same))),
+        same,
+      )
 
   pub waits-level : (p i : ℕ) → Waits (s .ph p) i → level (T .top p) (s .ph p) ≡ suc i
   waits-level p i w = level-waits (T .top p) (s .ph p) i w
@@ -89,26 +110,61 @@ module _ (T : Tree) (G : Lawful T) (s : State) (v : Inv T s) where
 
   -- who uses the node at a turn of a queue
   pub occupant : (k a : ℕ) → s .lo k ≤ a → a < s .hi k → Occupant T s k a
-  occupant k a h h′ = ⊎-elim (λ (e : a ≡ s .lo k). first e (v .holder k (omega arith))) (λ (e : a ≡ s .lo k → ⊥). later a h h′ e) (cases-eq a (s .lo k))
+  occupant k a h h′ =
+      ⊎-elim
+      (λ (e : a ≡ s .lo k). first e (v .holder k (omega arith)))
+      (λ (e : a ≡ s .lo k → ⊥). later a h h′ e)
+      (cases-eq a (s .lo k))
     where
       first : a ≡ s .lo k → Holder T s k → Occupant T s k a
-      first e o = record { rank = o .rank; lvl = o .lvl; on = o .on; queue = o .queue; is = ap (s .at k) e ∙ o .is; near = omega arith; role = inl (e, o .holds) }
+      first e o =
+          record {
+            rank = o .rank;
+            lvl = o .lvl;
+            on = o .on;
+            queue = o .queue;
+            is = ap (s .at k) e ∙ o .is;
+            near = omega arith;
+            role = inl (e, o .holds);
+          }
 
       later : (a : ℕ) → s .lo k ≤ a → a < s .hi k → (a ≡ s .lo k → ⊥) → Occupant T s k a
       later zero h h′ e = absurd (e (omega arith))
-      later (suc a) h h′ e = let m : Member T s k (suc a) = v .member k a (omega arith) h′ in record { rank = m .rank; lvl = m .lvl; on = m .on; queue = m .queue; is = m .is; near = omega (arith, waits-level (m .rank) (m .lvl) (m .waits)); role = inr (m .waits) }
+      later (suc a) h h′ e =
+          let m : Member T s k (suc a) = v .member k a (omega arith) h′ in
+          record {
+            rank = m .rank;
+            lvl = m .lvl;
+            on = m .on;
+            queue = m .queue;
+            is = m .is;
+            near = omega (arith, waits-level (m .rank) (m .lvl) (m .waits));
+            role = inr (m .waits);
+          }
 
   -- the node of a rank that has not joined stands in no queue
-  pub apart : (p i : ℕ) → On (T .top p) i → level (T .top p) (s .ph p) ≡ suc i → (Waits (s .ph p) i → ⊥) → (k a : ℕ) → s .lo k ≤ a → a < s .hi k → s .at k a ≢ T .node p i
+  pub apart : (p i : ℕ) → On (T .top p) i → level (T .top p) (s .ph p) ≡ suc i → (Waits (s .ph p) i → ⊥) → (k a : ℕ)
+      → s .lo k ≤ a → a < s .hi k → s .at k a ≢ T .node p i
   apart p i on h w k a l l′ e =
       let o : Occupant T s k a = occupant k a l l′ in
-      let u : (o .rank ≡ p) × (o .lvl ≡ i) = one-owner (o .rank) p (o .lvl) i (o .on) on (o .near) (omega arith) (sym (o .is) ∙ e) in
-      ⊎-elim (λ (r : (a ≡ s .lo k) × (level (T .top (o .rank)) (s .ph (o .rank)) ≤ o .lvl)). let q : level (T .top (o .rank)) (s .ph (o .rank)) ≡ level (T .top p) (s .ph p) = ap (λ x. level (T .top x) (s .ph x)) (u .0) in omega arith) (λ (r : Waits (s .ph (o .rank)) (o .lvl)). w (subst₂ (λ x y. Waits (s .ph x) y) (u .0) (u .1) r)) (o .role)
+      let u : (o .rank ≡ p) × (o .lvl ≡ i) =
+      one-owner (o .rank) p (o .lvl) i (o .on) on (o .near) (omega arith) (sym (o .is) ∙ e) in
+      ⊎-elim
+      (λ (r : (a ≡ s .lo k) × (level (T .top (o .rank)) (s .ph (o .rank)) ≤ o .lvl)).
+      let q : level (T .top (o .rank)) (s .ph (o .rank)) ≡ level (T .top p) (s .ph p) =
+      ap (λ x. level (T .top x) (s .ph x)) (u .0) in
+      omega arith)
+      (λ (r : Waits (s .ph (o .rank)) (o .lvl)). w (subst₂ (λ x y. Waits (s .ph x) y) (u .0) (u .1) r))
+      (o .role)
 
   -- the turn of a rank that stands behind another is the only one with its node
-  pub turn-is : (k a p i : ℕ) → T .elem p i ≡ k → s .lo k ≤ a → suc a < s .hi k → s .at k (suc a) ≡ T .node p i → (b : Behind T s p i) → b .turn ≡ a
+  pub turn-is : (k a p i : ℕ) → T .elem p i ≡ k → s .lo k ≤ a → suc a < s .hi k → s .at k (suc a) ≡ T .node p i
+      → (b : Behind T s p i) → b .turn ≡ a
   turn-is k a p i e l h is b =
-      let q : suc (b .turn) ≡ suc a = v .once k (suc (b .turn)) (suc a) (rw (← e) (omega arith)) (rw (← e) (b .high)) (omega arith) h (rw (← e) (b .is) ∙ sym is) in omega arith
+      let q : suc (b .turn) ≡ suc a =
+      v .once k (suc (b .turn)) (suc a) (rw (← e) (omega arith)) (rw (← e) (b .high)) (omega arith) h
+      (rw (← e) (b .is) ∙ sym is) in
+      omega arith
 
   -- who stands behind a rank that is about to hand over
   pub successor : (p h i t : ℕ) → s .ph p ≡ give h i t → Successor T s p i t
@@ -119,9 +175,15 @@ module _ (T : Tree) (G : Lawful T) (s : State) (v : Inv T s) where
       let lv : level (T .top p) (s .ph p) ≡ h = ap (level (T .top p)) e in
       let hd : Heads T s p i = v .heads p i on (omega arith) in
       let g : (t ≡ s .nx (T .node p i)) × (t ≢ 0) = asked T s v p (give h i t) e in
-      ⊎-elim (λ (z : suc (s .lo k) ≡ s .hi k). absurd (g .1 (g .0 ∙ (ap (s .nx) (sym (hd .is)) ∙ v .ends k (s .lo k) (omega arith) z)))) (λ (z : suc (s .lo k) ≡ s .hi k → ⊥). found hd on (omega arith) (v .member k (s .lo k) (omega arith) (omega arith))) (cases-eq (suc (s .lo k)) (s .hi k))
+      ⊎-elim
+      (λ (z : suc (s .lo k) ≡ s .hi k).
+      absurd (g .1 (g .0 ∙ (ap (s .nx) (sym (hd .is)) ∙ v .ends k (s .lo k) (omega arith) z))))
+      (λ (z : suc (s .lo k) ≡ s .hi k → ⊥).
+      found hd on (omega arith) (v .member k (s .lo k) (omega arith) (omega arith)))
+      (cases-eq (suc (s .lo k)) (s .hi k))
     where
-      found : Heads T s p i → On (T .top p) i → suc (s .lo (T .elem p i)) < s .hi (T .elem p i) → Member T s (T .elem p i) (suc (s .lo (T .elem p i))) → Successor T s p i t
+      found : Heads T s p i → On (T .top p) i → suc (s .lo (T .elem p i)) < s .hi (T .elem p i)
+          → Member T s (T .elem p i) (suc (s .lo (T .elem p i))) → Successor T s p i t
       found hd on more m = by (waits-cases (s .ph r) i (subst (Waits (s .ph r)) same (m .waits)))
         where
           r : ℕ
@@ -146,13 +208,29 @@ module _ (T : Tree) (G : Lawful T) (s : State) (v : Inv T s) where
           here b = rw (queue′, turn-is (T .elem p i) (s .lo (T .elem p i)) r i queue′ (omega arith) more is′ b) (hd .is)
 
           by : (s .ph r ≡ wait i) ⊎ ((u : ℕ) × (s .ph r ≡ link i u)) → Successor T s p i t
-          by (inl w) = let ww = asked T s v r (wait i) w in record { rank = r; on = on′; queue = queue′; waits = w; more = more; is = is′; target = g .0 ∙ (ap (s .nx) (sym (here (ww .spot))) ∙ ww .linked) }
-          by (inr w) = let ll = asked T s v r (link i (w .0)) (w .1) in absurd (g .1 (g .0 ∙ (ap (s .nx) (sym (here (ll .spot))) ∙ ll .none)))
+          by (inl w) =
+              let ww = asked T s v r (wait i) w in
+              record {
+                rank = r;
+                on = on′;
+                queue = queue′;
+                waits = w;
+                more = more;
+                is = is′;
+                target = g .0 ∙ (ap (s .nx) (sym (here (ww .spot))) ∙ ww .linked);
+              }
+          by (inr w) =
+              let ll = asked T s v r (link i (w .0)) (w .1) in
+              absurd (g .1 (g .0 ∙ (ap (s .nx) (sym (here (ll .spot))) ∙ ll .none)))
 
   -- a node stands in one queue, at one turn
-  pub one-turn : (k m a b : ℕ) → s .lo k ≤ a → a < s .hi k → s .lo m ≤ b → b < s .hi m → s .at k a ≡ s .at m b → (k ≡ m) × (a ≡ b)
+  pub one-turn : (k m a b : ℕ) → s .lo k ≤ a → a < s .hi k → s .lo m ≤ b → b < s .hi m → s .at k a ≡ s .at m b
+      → (k ≡ m) × (a ≡ b)
   one-turn k m a b l l′ h h′ e =
       let o : Occupant T s k a = occupant k a l l′ in
       let u : Occupant T s m b = occupant m b h h′ in
-      let z : k ≡ m = sym (o .queue) ∙ (G .queue-of (o .rank) (u .rank) (o .lvl) (u .lvl) (o .on) (u .on) (sym (o .is) ∙ (e ∙ u .is)) .1 ∙ u .queue) in
+      let z : k ≡ m =
+      sym (o .queue)
+      ∙ (G .queue-of (o .rank) (u .rank) (o .lvl) (u .lvl) (o .on) (u .on) (sym (o .is) ∙ (e ∙ u .is)) .1
+      ∙ u .queue) in
       (z, v .once k a b l l′ (rw z h) (rw z h′) (e ∙ ap (λ x. s .at x b) (sym z)))

@@ -5,7 +5,9 @@ use mathlib.Core.Logic.{_⊎_, inl, inr, _≢_, ⊎-elim}
 use native.Mathlib.Omega.{arith}
 use Rattle.std.proofs.shelf.Tests.{cases-eq}
 use Rattle.queues.specs.Machine.{On}
-use Rattle.queues.specs.Counters.{total, pick, Load, none, trying, inside, leaving, carrying, clearing, tries, reads, clears, Gate, shut, raising, checking, reading, wide, lowering, Marks, Keeps, Tally, F, Count, Counted}
+use Rattle.queues.specs.Counters.{total, pick, Load, none, trying, inside, leaving, carrying, clearing, tries, reads}
+use Rattle.queues.specs.Counters.{clears, Gate, shut, raising, checking, reading, wide, lowering, Marks, Keeps, Tally}
+use Rattle.queues.specs.Counters.{F, Count, Counted}
 use Rattle.queues.proofs.Split.{split}
 use Rattle.queues.proofs.Sum.{total-same, total-swap, total-part, pick-same, pick-other}
 
@@ -20,14 +22,21 @@ pub record Shift (s : Tally) (p c : ℕ) (load : ℕ → Load) (ar de : ℕ → 
   pub ar-other : (d : ℕ) → d ≢ c → ar d ≡ s .ar d
   pub de-other : (d : ℕ) → d ≢ c → de d ≡ s .de d
 
-module _ (P : ℕ) (s : Tally) (p c : ℕ) (on : On P p) (load : ℕ → Load) (ar de : ℕ → ℕ) (m : Shift s p c load ar de) where
-  -- a sum at another counter is as it was
-  pub away : (w : Load → ℕ → ℕ) (d : ℕ) → w (load p) d ≡ w (s .load p) d → total P (λ q. w (load q) d) ≡ total P (λ q. w (s .load q) d)
-  away w d e = total-same P (λ q. w (s .load q) d) (λ q. w (load q) d) (λ q _ _. split p (λ q. w (load q) d ≡ w (s .load q) d) e (λ q a. ap (λ l. w l d) (m .others q a)) q)
+module _ (P : ℕ) (s : Tally) (p c : ℕ) (on : On P p) (load : ℕ → Load) (ar de : ℕ → ℕ) (m : Shift s p c load ar de)
+  where
+    -- a sum at another counter is as it was
+    pub away : (w : Load → ℕ → ℕ) (d : ℕ) → w (load p) d ≡ w (s .load p) d
+        → total P (λ q. w (load q) d) ≡ total P (λ q. w (s .load q) d)
+    away w d e =
+        total-same P
+        (λ q. w (s .load q) d)
+        (λ q. w (load q) d)
+        (λ q _ _. split p (λ q. w (load q) d ≡ w (s .load q) d) e (λ q a. ap (λ l. w l d) (m .others q a)) q)
 
-  -- and at this one it moves by the rank's part
-  pub moves : (w : Load → ℕ → ℕ) → total P (λ q. w (load q) c) + w (s .load p) c ≡ total P (λ q. w (s .load q) c) + w (load p) c
-  moves w = total-swap P (λ q. w (s .load q) c) (λ q. w (load q) c) p on (λ q a. ap (λ l. w l c) (m .others q a))
+    -- and at this one it moves by the rank's part
+    pub moves : (w : Load → ℕ → ℕ)
+        → total P (λ q. w (load q) c) + w (s .load p) c ≡ total P (λ q. w (s .load q) c) + w (load p) c
+    moves w = total-swap P (λ q. w (s .load q) c) (λ q. w (load q) c) p on (λ q a. ap (λ l. w l c) (m .others q a))
 
 abbrev pub shifted : Tally → (ℕ → Load) → (ℕ → ℕ) → (ℕ → ℕ) → Tally
 shifted s load ar de = record { load = load; gate = s .gate; ar = ar; de = de; bit = s .bit }
@@ -35,12 +44,14 @@ shifted s load ar de = record { load = load; gate = s .gate; ar = ar; de = de; b
 -- rows R1 (refused), R2, R5, R6, R7, U6 and a reader's leave: nobody comes in, and what is counted moves or falls
 pub record Drains (s : Tally) (p c : ℕ) (load : ℕ → Load) (ar de : ℕ → ℕ) : Type 0 where
   pub shift : Shift s p c load ar de
-  pub flow : ar c + s .de c + tries (s .load p) c + reads (s .load p) c + clears (s .load p) c ≡ s .ar c + de c + tries (load p) c + reads (load p) c + clears (load p) c
+  pub flow : ar c + s .de c + tries (s .load p) c + reads (s .load p) c + clears (s .load p) c
+      ≡ s .ar c + de c + tries (load p) c + reads (load p) c + clears (load p) c
   pub fall : de c + reads (load p) c + clears (load p) c ≤ s .de c + reads (s .load p) c + clears (s .load p) c
   pub fall-reads : de c + reads (load p) c ≤ s .de c + reads (s .load p) c
   pub outside : (d : ℕ) → load p ≢ inside d
 
-module _ (P C TR : ℕ) (s : Tally) (v : Counted P C TR s) (p c : ℕ) (on : On P p) (load : ℕ → Load) (ar de : ℕ → ℕ) (m : Drains s p c load ar de) where
+module _ (P C TR : ℕ) (s : Tally) (v : Counted P C TR s) (p c : ℕ) (on : On P p) (load : ℕ → Load) (ar de : ℕ → ℕ)
+    (m : Drains s p c load ar de) where
   abbrev s′ : Tally
   s′ = shifted s load ar de
 
@@ -50,7 +61,12 @@ module _ (P C TR : ℕ) (s : Tally) (v : Counted P C TR s) (p c : ℕ) (on : On 
       let a = moves P s p c on load ar de (m .shift) tries in
       let b = moves P s p c on load ar de (m .shift) reads in
       let x = moves P s p c on load ar de (m .shift) clears in
-      record { sum = omega (arith, o .sum, m .flow); small = omega (arith, o .small, m .fall); bits = o .bits; stands = o .stands }
+      record {
+        sum = omega (arith, o .sum, m .flow);
+        small = omega (arith, o .small, m .fall);
+        bits = o .bits;
+        stands = o .stands;
+      }
 
   there : (d : ℕ) → d ≢ c → d < C → Count P TR s′ d
   there d ne l =
@@ -64,14 +80,29 @@ module _ (P C TR : ℕ) (s : Tally) (v : Counted P C TR s) (p c : ℕ) (on : On 
       record { sum = omega (arith, o .sum); small = omega (arith, o .small); bits = o .bits; stands = o .stands }
 
   seen′ : (k : ℕ) → (q n : ℕ) → s .gate q ≡ reading k n → F + de k + total P (λ p. reads (load p) k) ≤ n
-  seen′ = split c (λ k. (q n : ℕ) → s .gate q ≡ reading k n → F + de k + total P (λ p. reads (load p) k) ≤ n) (λ q n e. omega (arith, v .seen q c n e, m .fall-reads, moves P s p c on load ar de (m .shift) reads)) (λ k ne q n e. omega (arith, v .seen q k n e, m .shift .de-other k ne, away P s p c on load ar de (m .shift) reads k (m .shift .local k ne .1)))
+  seen′ =
+      split c
+      (λ k. (q n : ℕ) → s .gate q ≡ reading k n → F + de k + total P (λ p. reads (load p) k) ≤ n)
+      (λ q n e. omega (arith, v .seen q c n e, m .fall-reads, moves P s p c on load ar de (m .shift) reads))
+      (λ k ne q n e.
+      omega (
+        arith,
+        v .seen q k n e,
+        m .shift .de-other k ne,
+        away P s p c on load ar de (m .shift) reads k (m .shift .local k ne .1),
+      ))
 
   pub drained : Counted P C TR s′
   drained =
       record {
         each = split c (λ d. d < C → Count P TR s′ d) here there;
         marked = v .marked;
-        kept = λ r d l k. split p (λ q. On P q → load q ≢ inside d) (λ _. m .outside d) (λ q a on′ z. v .kept r d l k q on′ (sym (m .shift .others q a) ∙ z));
+        kept =
+            λ r d l k.
+            split p
+            (λ q. On P q → load q ≢ inside d)
+            (λ _. m .outside d)
+            (λ q a on′ z. v .kept r d l k q on′ (sym (m .shift .others q a) ∙ z));
         seen = λ q k n e. seen′ k q n e;
       }
 
@@ -83,7 +114,8 @@ pub record Enters (TR : ℕ) (s : Tally) (p c : ℕ) (load : ℕ → Load) (ar :
   pub word : ar c ≡ suc (s .ar c)
   pub room : s .ar c < TR
 
-module _ (P C TR : ℕ) (cap : TR ≤ F) (s : Tally) (v : Counted P C TR s) (p c : ℕ) (in-c : c < C) (on : On P p) (load : ℕ → Load) (ar : ℕ → ℕ) (m : Enters TR s p c load ar) where
+module _ (P C TR : ℕ) (cap : TR ≤ F) (s : Tally) (v : Counted P C TR s) (p c : ℕ) (in-c : c < C) (on : On P p)
+    (load : ℕ → Load) (ar : ℕ → ℕ) (m : Enters TR s p c load ar) where
   abbrev e′ : Tally
   e′ = shifted s load ar (s .de)
 
@@ -102,7 +134,12 @@ module _ (P C TR : ℕ) (cap : TR ≤ F) (s : Tally) (v : Counted P C TR s) (p c
       let a = moves P s p c on load ar (s .de) (m .shift) tries in
       let b = moves P s p c on load ar (s .de) (m .shift) reads in
       let x = moves P s p c on load ar (s .de) (m .shift) clears in
-      record { sum = omega (arith, o .sum, m .word, t-old, t-new); small = omega (arith, o .sum, m .room, no-bit, t-old, t-new); bits = o .bits; stands = o .stands }
+      record {
+        sum = omega (arith, o .sum, m .word, t-old, t-new);
+        small = omega (arith, o .sum, m .room, no-bit, t-old, t-new);
+        bits = o .bits;
+        stands = o .stands;
+      }
 
   enter-there : (d : ℕ) → d ≢ c → d < C → Count P TR e′ d
   enter-there d ne l =
@@ -134,12 +171,33 @@ module _ (P C TR : ℕ) (cap : TR ≤ F) (s : Tally) (v : Counted P C TR s) (p c
       record {
         each = split c (λ d. d < C → Count P TR e′ d) (λ _. enter-here) enter-there;
         marked = v .marked;
-        kept = λ r d l k. split p (λ q. On P q → load q ≢ inside d) (λ _ z. unmarked r (subst (Marks (s .gate r)) (sym (inside-one c d (sym (m .after) ∙ z))) (keeps-marks (s .gate r) d k))) (λ q a on′ z. v .kept r d l k q on′ (sym (m .shift .others q a) ∙ z));
-        seen = λ q k n e. split c (λ k. s .gate q ≡ reading k n → F + s .de k + total P (λ p. reads (load p) k) ≤ n) (λ e. absurd (unmarked q (subst (λ g. Marks g c) (sym e) tt))) (λ k ne e. omega (arith, v .seen q k n e, away P s p c on load ar (s .de) (m .shift) reads k (m .shift .local k ne .1))) k e;
+        kept =
+            λ r d l k.
+            split p
+            (λ q. On P q → load q ≢ inside d)
+            (λ _ z.
+            unmarked r
+            (subst (Marks (s .gate r)) (sym (inside-one c d (sym (m .after) ∙ z)))
+            (keeps-marks (s .gate r) d k)))
+            (λ q a on′ z. v .kept r d l k q on′ (sym (m .shift .others q a) ∙ z));
+        seen =
+            λ q k n e.
+            split c
+            (λ k. s .gate q ≡ reading k n → F + s .de k + total P (λ p. reads (load p) k) ≤ n)
+            (λ e. absurd (unmarked q (subst (λ g. Marks g c) (sym e) tt)))
+            (λ k ne e.
+            omega (
+              arith,
+              v .seen q k n e,
+              away P s p c on load ar (s .de) (m .shift) reads k (m .shift .local k ne .1),
+            ))
+            k
+            e;
       }
 
 -- row W9: where the word read before is F and the departures, nobody of the counter is in
-pub nobody-in : (P C TR : ℕ) (s : Tally) → Counted P C TR s → (p k n : ℕ) → s .gate p ≡ reading k n → n ≡ F + s .de k → (q : ℕ) → On P q → s .load q ≢ inside k
+pub nobody-in : (P C TR : ℕ) (s : Tally) → Counted P C TR s → (p k n : ℕ) → s .gate p ≡ reading k n → n ≡ F + s .de k
+    → (q : ℕ) → On P q → s .load q ≢ inside k
 nobody-in P C TR s v p k n e z q on w =
     let a : reads (s .load q) k ≤ total P (λ p. reads (s .load p) k) = total-part P (λ p. reads (s .load p) k) q on in
     let b : reads (s .load q) k ≡ 1 = ap (λ l. reads l k) w ∙ pick-same k 1 in

@@ -4,7 +4,9 @@ use mathlib.Core.Path.{_≡_, refl, sym, _∙_, ap, subst}
 use mathlib.Core.Logic.{_⊎_, inl, inr, _≢_, ⊎-elim}
 use native.Mathlib.Omega.{arith}
 use Rattle.std.proofs.shelf.Tests.{cases-eq, cases-order}
-use Rattle.queues.specs.Machine.{Tree, Lawful, On, Phase, out, fresh, clean, ready, link, wait, hold, give, level, InRange, Waits, Calm, State, Inv, Holder, Member, Heads, Behind, Linking, Waiting, Asks}
+use Rattle.queues.specs.Machine.{Tree, Lawful, On, Phase, out, fresh, clean, ready, link, wait, hold, give, level}
+use Rattle.queues.specs.Machine.{InRange, Waits, Calm, State, Inv, Holder, Member, Heads, Behind, Linking, Waiting}
+use Rattle.queues.specs.Machine.{Asks}
 use Rattle.queues.proofs.Base.{range-of, one-holder, one-owner, waits-level, waits-on, Successor, successor}
 use Rattle.queues.proofs.Split.{split, split₂, calm-asks}
 
@@ -20,7 +22,8 @@ pub record Passes (T : Tree) (s : State) (p r h i : ℕ) (ph : ℕ → Phase) (l
   pub gone : lo (T .elem p i) ≡ suc (s .lo (T .elem p i))
   pub stay : (k : ℕ) → k ≢ T .elem p i → lo k ≡ s .lo k
 
-module _ (T : Tree) (G : Lawful T) (s : State) (v : Inv T s) (p h i t : ℕ) (e : s .ph p ≡ give h i t) (n : Successor T s p i t) (ph : ℕ → Phase) (lo : ℕ → ℕ) (c : Passes T s p (n .rank) h i ph lo) where
+module _ (T : Tree) (G : Lawful T) (s : State) (v : Inv T s) (p h i t : ℕ) (e : s .ph p ≡ give h i t)
+    (n : Successor T s p i t) (ph : ℕ → Phase) (lo : ℕ → ℕ) (c : Passes T s p (n .rank) h i ph lo) where
   abbrev r : ℕ
   r = n .rank
 
@@ -53,29 +56,48 @@ module _ (T : Tree) (G : Lawful T) (s : State) (v : Inv T s) (p h i t : ℕ) (e 
   lo-less = split (T .elem p i) (λ k. s .lo k ≤ lo k) (omega (arith, c .gone)) (λ k ne. omega (arith, c .stay k ne))
 
   range′ : (q : ℕ) → InRange (T .top q) (ph q)
-  range′ = split₂ p r (λ q. InRange (T .top q) (ph q)) (c .in-range) (rw (c .taker) (omega (arith, rg, n .on))) (λ q a b. rw (c .others q a b) (v .range q))
+  range′ =
+      split₂ p r
+      (λ q. InRange (T .top q) (ph q))
+      (c .in-range)
+      (rw (c .taker) (omega (arith, rg, n .on)))
+      (λ q a b. rw (c .others q a b) (v .range q))
 
   order′ : (k : ℕ) → lo k ≤ s .hi k
-  order′ = split (T .elem p i) (λ k. lo k ≤ s .hi k) (omega (arith, c .gone, n .more)) (λ k ne. omega (arith, c .stay k ne, v .order k))
+  order′ =
+      split (T .elem p i)
+      (λ k. lo k ≤ s .hi k)
+      (omega (arith, c .gone, n .more))
+      (λ k ne. omega (arith, c .stay k ne, v .order k))
 
   once′ : (k a b : ℕ) → lo k ≤ a → a < s .hi k → lo k ≤ b → b < s .hi k → s .at k a ≡ s .at k b → a ≡ b
   once′ k a b l l′ m m′ q = v .once k a b (omega (arith, lo-less k)) l′ (omega (arith, lo-less k)) m′ q
 
   empty′ : (k : ℕ) → lo k ≡ s .hi k → s .tl k ≡ 0
-  empty′ = split (T .elem p i) (λ k. lo k ≡ s .hi k → s .tl k ≡ 0) (λ z. absurd (omega (arith, c .gone, n .more))) (λ k ne z. v .empty k (omega (arith, c .stay k ne)))
+  empty′ =
+      split (T .elem p i)
+      (λ k. lo k ≡ s .hi k → s .tl k ≡ 0)
+      (λ z. absurd (omega (arith, c .gone, n .more)))
+      (λ k ne z. v .empty k (omega (arith, c .stay k ne)))
 
   -- a holder in another queue keeps its head
   kept : (q j : ℕ) → T .elem q j ≢ T .elem p i → Heads T s q j → Heads T s′ q j
-  kept q j ne o = record { some = omega (arith, c .stay (T .elem q j) ne, o .some); is = rw (c .stay (T .elem q j) ne) (o .is) }
+  kept q j ne o =
+      record { some = omega (arith, c .stay (T .elem q j) ne, o .some); is = rw (c .stay (T .elem q j) ne) (o .is) }
 
   heads-p : (j : ℕ) → On (T .top p) j → level (T .top p) (ph p) ≤ j → Heads T s′ p j
-  heads-p j on l = kept p j (differs p j on (omega (arith, c .giver))) (v .heads p j on (omega (arith, c .giver, level-p, rg)))
+  heads-p j on l =
+      kept p j (differs p j on (omega (arith, c .giver))) (v .heads p j on (omega (arith, c .giver, level-p, rg)))
 
   -- above the hand-over the two ranks have one way up
   shares : (j : ℕ) → 1 ≤ j → j < i → (T .elem r j ≡ T .elem p j) × (T .node r j ≡ T .node p j)
   shares j on l =
-      let up : (m : ℕ) → 1 ≤ m → m ≤ i → T .elem r m ≡ T .elem p m = λ m a b. G .above r p i m (n .on) on-p (omega (arith, n .on)) b (n .queue) in
-      (up j on (omega arith), G .shared r p j (omega (arith, n .on)) (omega (arith, n .on)) (omega (arith, on-p)) (up (suc j) (omega arith) l))
+      let up : (m : ℕ) → 1 ≤ m → m ≤ i → T .elem r m ≡ T .elem p m =
+      λ m a b. G .above r p i m (n .on) on-p (omega (arith, n .on)) b (n .queue) in (
+        up j on (omega arith),
+        G .shared r p j (omega (arith, n .on)) (omega (arith, n .on)) (omega (arith, on-p))
+            (up (suc j) (omega arith) l),
+      )
 
   heads-here : Heads T s′ r i
   heads-here = record { some = rw (n .queue, c .gone) (n .more); is = rw (n .queue, c .gone) (n .is) }
@@ -95,17 +117,34 @@ module _ (T : Tree) (G : Lawful T) (s : State) (v : Inv T s) (p h i t : ℕ) (e 
       by (inr (inr z)) = kept r j (differs r j on (omega arith)) (v .heads r j on (omega (arith, level-r)))
 
   heads-o : (q : ℕ) → q ≢ p → q ≢ r → (j : ℕ) → On (T .top q) j → level (T .top q) (ph q) ≤ j → Heads T s′ q j
-  heads-o q a b j on l = let l′ : level (T .top q) (s .ph q) ≤ j = omega (arith, level-o q a b) in kept q j (λ w. let z : j ≡ i = G .level-of q p j i on on-p w in a (one-holder T G s v q p j on (omega (arith, on-p)) l′ (omega (arith, level-p, rg)) (w ∙ ap (T .elem p) (sym z)))) (v .heads q j on l′)
+  heads-o q a b j on l =
+      let l′ : level (T .top q) (s .ph q) ≤ j = omega (arith, level-o q a b) in
+      kept q j
+      (λ w.
+      let z : j ≡ i = G .level-of q p j i on on-p w in
+      a
+      (one-holder T G s v q p j on (omega (arith, on-p)) l′ (omega (arith, level-p, rg))
+      (w ∙ ap (T .elem p) (sym z))))
+      (v .heads q j on l′)
 
   heads′ : (q j : ℕ) → On (T .top q) j → level (T .top q) (ph q) ≤ j → Heads T s′ q j
-  heads′ = split₂ p r (λ q. (j : ℕ) → On (T .top q) j → level (T .top q) (ph q) ≤ j → Heads T s′ q j) heads-p heads-r heads-o
+  heads′ =
+      split₂ p r
+      (λ q. (j : ℕ) → On (T .top q) j → level (T .top q) (ph q) ≤ j → Heads T s′ q j)
+      heads-p
+      heads-r
+      heads-o
 
   -- the turn of a rank that waits on: it is not the taker's
   behind : (q j : ℕ) → q ≢ r → Waits (s .ph q) j → Behind T s q j → Behind T s′ q j
-  behind q j ne w b = record { turn = b .turn; low = low (cases-eq (T .elem q j) (T .elem p i)); high = b .high; is = b .is }
+  behind q j ne w b =
+      record { turn = b .turn; low = low (cases-eq (T .elem q j) (T .elem p i)); high = b .high; is = b .is }
     where
       clash : T .elem q j ≡ T .elem p i → b .turn ≢ s .lo (T .elem p i)
-      clash z y = ne (one-owner T G s v q r j i (waits-on T G s v q j w) (n .on) (omega (arith, waits-level T G s v q j w)) (omega (arith, level-r)) (sym (b .is) ∙ (rw (z, y) (n .is))) .0)
+      clash z y =
+          ne
+          (one-owner T G s v q r j i (waits-on T G s v q j w) (n .on) (omega (arith, waits-level T G s v q j w))
+          (omega (arith, level-r)) (sym (b .is) ∙ (rw (z, y) (n .is))) .0)
 
       low : (T .elem q j ≡ T .elem p i) ⊎ (T .elem q j ≡ T .elem p i → ⊥) → lo (T .elem q j) ≤ b .turn
       low (inl z) = let l : s .lo (T .elem p i) ≤ b .turn = rw z at (b .low) in rw (z, c .gone) (omega (arith, clash z))
@@ -117,40 +156,113 @@ module _ (T : Tree) (G : Lawful T) (s : State) (v : Inv T s) (p h i t : ℕ) (e 
   asks-o q b (fresh j) w o = tt
   asks-o q b (clean j) w o = o
   asks-o q b (ready j) w o = o
-  asks-o q b (link j u) w o = record { spot = behind q j b (subst (λ f. Waits f j) (sym w) refl) (o .spot); target = o .target; none = o .none }
-  asks-o q b (wait j) w o = record { spot = behind q j b (subst (λ f. Waits f j) (sym w) refl) (o .spot); linked = o .linked }
+  asks-o q b (link j u) w o =
+      record {
+        spot = behind q j b (subst (λ f. Waits f j) (sym w) refl) (o .spot);
+        target = o .target;
+        none = o .none;
+      }
+  asks-o q b (wait j) w o =
+      record { spot = behind q j b (subst (λ f. Waits f j) (sym w) refl) (o .spot); linked = o .linked }
   asks-o q b (hold j) w o = tt
   asks-o q b (give g j u) w o = o
 
   asks′ : (q : ℕ) → Asks T s′ q (ph q)
-  asks′ = split₂ p r (λ q. Asks T s′ q (ph q)) (calm-asks T s′ p (ph p) (c .calm)) (rw (c .taker) tt) (λ q a b. rw (c .others q a b) (asks-o q b (s .ph q) refl (v .asks q)))
+  asks′ =
+      split₂ p r
+      (λ q. Asks T s′ q (ph q))
+      (calm-asks T s′ p (ph p) (c .calm))
+      (rw (c .taker) tt)
+      (λ q a b. rw (c .others q a b) (asks-o q b (s .ph q) refl (v .asks q)))
 
   -- who holds an element other than the one handed over
   holder-o : (k : ℕ) → k ≢ T .elem p i → Holder T s k → Holder T s′ k
-  holder-o k ne o = split₂ p r (λ q. (j : ℕ) → On (T .top q) j → T .elem q j ≡ k → s .at k (s .lo k) ≡ T .node q j → level (T .top q) (s .ph q) ≤ j → Holder T s′ k) from-p from-r from-o (o .rank) (o .lvl) (o .on) (o .queue) (o .is) (o .holds)
+  holder-o k ne o =
+      split₂ p r
+      (λ q.
+      (j : ℕ) → On (T .top q) j → T .elem q j ≡ k → s .at k (s .lo k) ≡ T .node q j
+      → level (T .top q) (s .ph q) ≤ j → Holder T s′ k)
+      from-p
+      from-r
+      from-o
+      (o .rank)
+      (o .lvl)
+      (o .on)
+      (o .queue)
+      (o .is)
+      (o .holds)
     where
       lo-k : lo k ≡ s .lo k
       lo-k = c .stay k ne
 
-      from-p : (j : ℕ) → On (T .top p) j → T .elem p j ≡ k → s .at k (s .lo k) ≡ T .node p j → level (T .top p) (s .ph p) ≤ j → Holder T s′ k
+      from-p : (j : ℕ) → On (T .top p) j → T .elem p j ≡ k → s .at k (s .lo k) ≡ T .node p j
+          → level (T .top p) (s .ph p) ≤ j → Holder T s′ k
       from-p j on q is l = by (cases-order j i)
         where
           by : (j ≡ i) ⊎ ((j < i) ⊎ (i < j)) → Holder T s′ k
           by (inl z) = absurd (ne (sym q ∙ ap (T .elem p) z))
-          by (inr (inl z)) = let sh = shares j (on .from) z in record { rank = r; lvl = j; on = omega (arith, n .on); queue = sh .0 ∙ q; is = rw lo-k (is ∙ sym (sh .1)); holds = omega (arith, level-r′, level-p) }
-          by (inr (inr z)) = record { rank = p; lvl = j; on = on; queue = q; is = rw lo-k is; holds = omega (arith, c .giver) }
+          by (inr (inl z)) =
+              let sh = shares j (on .from) z in
+              record {
+                rank = r;
+                lvl = j;
+                on = omega (arith, n .on);
+                queue = sh .0 ∙ q;
+                is = rw lo-k (is ∙ sym (sh .1));
+                holds = omega (arith, level-r′, level-p);
+              }
+          by (inr (inr z)) =
+              record { rank = p; lvl = j; on = on; queue = q; is = rw lo-k is; holds = omega (arith, c .giver) }
 
-      from-r : (j : ℕ) → On (T .top r) j → T .elem r j ≡ k → s .at k (s .lo k) ≡ T .node r j → level (T .top r) (s .ph r) ≤ j → Holder T s′ k
-      from-r j on q is l = record { rank = r; lvl = j; on = on; queue = q; is = rw lo-k is; holds = omega (arith, level-r, level-r′, rg) }
+      from-r : (j : ℕ) → On (T .top r) j → T .elem r j ≡ k → s .at k (s .lo k) ≡ T .node r j
+          → level (T .top r) (s .ph r) ≤ j → Holder T s′ k
+      from-r j on q is l =
+          record {
+            rank = r;
+            lvl = j;
+            on = on;
+            queue = q;
+            is = rw lo-k is;
+            holds = omega (arith, level-r, level-r′, rg);
+          }
 
-      from-o : (x : ℕ) → x ≢ p → x ≢ r → (j : ℕ) → On (T .top x) j → T .elem x j ≡ k → s .at k (s .lo k) ≡ T .node x j → level (T .top x) (s .ph x) ≤ j → Holder T s′ k
-      from-o x a b j on q is l = record { rank = x; lvl = j; on = on; queue = q; is = rw lo-k is; holds = omega (arith, level-o x a b) }
+      from-o : (x : ℕ) → x ≢ p → x ≢ r → (j : ℕ) → On (T .top x) j → T .elem x j ≡ k → s .at k (s .lo k) ≡ T .node x j
+          → level (T .top x) (s .ph x) ≤ j → Holder T s′ k
+      from-o x a b j on q is l =
+          record { rank = x; lvl = j; on = on; queue = q; is = rw lo-k is; holds = omega (arith, level-o x a b) }
 
   holder′ : (k : ℕ) → lo k < s .hi k → Holder T s′ k
-  holder′ = split (T .elem p i) (λ k. lo k < s .hi k → Holder T s′ k) (λ _. record { rank = r; lvl = i; on = n .on; queue = n .queue; is = rw (c .gone) (n .is); holds = omega (arith, level-r′, rg) }) (λ k ne l. holder-o k ne (v .holder k (omega (arith, c .stay k ne))))
+  holder′ =
+      split (T .elem p i)
+      (λ k. lo k < s .hi k → Holder T s′ k)
+      (λ _.
+      record {
+        rank = r;
+        lvl = i;
+        on = n .on;
+        queue = n .queue;
+        is = rw (c .gone) (n .is);
+        holds = omega (arith, level-r′, rg);
+      })
+      (λ k ne l. holder-o k ne (v .holder k (omega (arith, c .stay k ne))))
 
   member-of : (k a : ℕ) → lo k ≤ a → suc a < s .hi k → Member T s k (suc a) → Member T s′ k (suc a)
-  member-of k a l l′ m = record { rank = m .rank; lvl = m .lvl; on = m .on; queue = m .queue; is = m .is; waits = split₂ p r (λ q. q ≡ m .rank → Waits (ph q) (m .lvl)) at-p at-r (λ q x y z. rw (c .others q x y, z) (m .waits)) (m .rank) refl }
+  member-of k a l l′ m =
+      record {
+        rank = m .rank;
+        lvl = m .lvl;
+        on = m .on;
+        queue = m .queue;
+        is = m .is;
+        waits =
+            split₂ p r
+            (λ q. q ≡ m .rank → Waits (ph q) (m .lvl))
+            at-p
+            at-r
+            (λ q x y z. rw (c .others q x y, z) (m .waits))
+            (m .rank)
+            refl;
+      }
     where
       at-p : p ≡ m .rank → Waits (ph p) (m .lvl)
       at-p z = absurd (subst (λ f. Waits f (m .lvl)) (ap (s .ph) (sym z) ∙ e) (m .waits))
@@ -158,14 +270,30 @@ module _ (T : Tree) (G : Lawful T) (s : State) (v : Inv T s) (p h i t : ℕ) (e 
       at-r : r ≡ m .rank → Waits (ph r) (m .lvl)
       at-r z =
           let lv : i ≡ m .lvl = subst (λ f. Waits f (m .lvl)) (ap (s .ph) (sym z) ∙ n .waits) (m .waits) in
-          let same : T .elem p i ≡ k = sym (n .queue) ∙ (ap (λ x. T .elem x i) z ∙ (ap (T .elem (m .rank)) lv ∙ m .queue)) in
+          let same : T .elem p i ≡ k =
+          sym (n .queue) ∙ (ap (λ x. T .elem x i) z ∙ (ap (T .elem (m .rank)) lv ∙ m .queue)) in
           let gone : lo k ≡ suc (s .lo k) = subst (λ x. lo x ≡ suc (s .lo x)) same (c .gone) in
-          let first : s .at k (suc (s .lo k)) ≡ T .node r i = subst (λ x. s .at x (suc (s .lo x)) ≡ T .node r i) same (n .is) in
-          let q : suc a ≡ suc (s .lo k) = v .once k (suc a) (suc (s .lo k)) (omega arith) l′ (omega arith) (omega arith) (m .is ∙ (ap (λ x. T .node x (m .lvl)) (sym z) ∙ (ap (T .node r) (sym lv) ∙ sym first))) in
+          let first : s .at k (suc (s .lo k)) ≡ T .node r i =
+          subst (λ x. s .at x (suc (s .lo x)) ≡ T .node r i) same (n .is) in
+          let q : suc a ≡ suc (s .lo k) =
+          v .once k (suc a) (suc (s .lo k)) (omega arith) l′ (omega arith) (omega arith)
+          (m .is ∙ (ap (λ x. T .node x (m .lvl)) (sym z) ∙ (ap (T .node r) (sym lv) ∙ sym first))) in
           absurd (omega arith)
 
   member′ : (k a : ℕ) → lo k ≤ a → suc a < s .hi k → Member T s′ k (suc a)
   member′ k a l l′ = member-of k a l l′ (v .member k a (omega (arith, lo-less k)) l′)
 
   pub handed : Inv T s′
-  handed = record { range = range′; order = order′; once = once′; empty = empty′; tail = λ k a l z. v .tail k a (omega (arith, lo-less k)) z; ends = λ k a l z. v .ends k a (omega (arith, lo-less k)) z; heads = heads′; holder = holder′; member = member′; asks = asks′ }
+  handed =
+      record {
+        range = range′;
+        order = order′;
+        once = once′;
+        empty = empty′;
+        tail = λ k a l z. v .tail k a (omega (arith, lo-less k)) z;
+        ends = λ k a l z. v .ends k a (omega (arith, lo-less k)) z;
+        heads = heads′;
+        holder = holder′;
+        member = member′;
+        asks = asks′;
+      }

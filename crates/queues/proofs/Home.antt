@@ -7,9 +7,12 @@ use lib.Dec.{eqb, leb, ltb}
 use native.Mathlib.Omega.{arith}
 use Rattle.std.proofs.shelf.Tests.{cases-eq, cases-lt}
 use Rattle.std.proofs.shelf.Ways.{tells}
-use Rattle.queues.specs.Machine.{Tree, Lawful, On, Phase, out, fresh, clean, ready, link, wait, hold, give, level, InRange, Waits, State, Inv, Linking, Asks}
+use Rattle.queues.specs.Machine.{Tree, Lawful, On, Phase, out, fresh, clean, ready, link, wait, hold, give, level}
+use Rattle.queues.specs.Machine.{InRange, Waits, State, Inv, Linking, Asks}
 use Rattle.queues.specs.Counters.{total}
-use Rattle.queues.specs.Rows.{Place, idle, W1, W2, W3, W4, W5, W6, W7, W8, W9, U1, U2, U3, U4, U5, U6, U7, U8, U9, U10, R1, R2, R3, R4, R5, R6, R7, writes, reads, WAIT, tell, Plan, Lock, upd, phaseOf, at-level, phase, view, Sound, Fine, go, row}
+use Rattle.queues.specs.Rows.{Place, idle, W1, W2, W3, W4, W5, W6, W7, W8, W9, U1, U2, U3, U4, U5, U6, U7, U8, U9}
+use Rattle.queues.specs.Rows.{U10, R1, R2, R3, R4, R5, R6, R7, writes, reads, WAIT, tell, Plan, Lock, upd, phaseOf}
+use Rattle.queues.specs.Rows.{at-level, phase, view, Sound, Fine, go, row}
 use Rattle.queues.specs.Whole.{Within, Safe}
 use Rattle.queues.specs.Way.{tag, Node, Move, Step, Leave, Accepts, In, exit, Accepted, act, Apt}
 use Rattle.queues.proofs.Base.{Occupant, occupant, Successor, successor, asked}
@@ -63,18 +66,23 @@ pub row-other : (L : Plan) (s : Lock) (p : ℕ) (f : Place) (q : ℕ) → q ≢ 
 unfolding upd
 row-other L s p f q a = grind (arith, tells)
 
-accepts : (L : Plan) (s : Lock) (p : ℕ) (f : Place) → ((q j : ℕ) → L .cap q j ≤ 1000) → InRange (L .tree .top p) (phaseOf f (s .st (L .tree .node p (at-level f)))) → Sound L (s .st) p f → Within (L .counters) f → Aims (L .tree) f → Busy f → Accepts L s p f
+accepts : (L : Plan) (s : Lock) (p : ℕ) (f : Place) → ((q j : ℕ) → L .cap q j ≤ 1000)
+    → InRange (L .tree .top p) (phaseOf f (s .st (L .tree .node p (at-level f)))) → Sound L (s .st) p f
+    → Within (L .counters) f → Aims (L .tree) f → Busy f → Accepts L s p f
 accepts L s p f c r so w a b = grind (arith, tells)
 
 -- what stands in t is the node of a rank
 link-aims : (T : Tree) → Lawful T → (s : State) → Inv T s → (p i t : ℕ) → s .ph p ≡ link i t → Node T t
 link-aims T G s v p i t e =
     let l : Linking T s p i t = asked T s v p (link i t) e in
-    let o : Occupant T s (T .elem p i) (l .spot .turn) = occupant T G s v (T .elem p i) (l .spot .turn) (l .spot .low) (omega (arith, l .spot .high)) in
+    let o : Occupant T s (T .elem p i) (l .spot .turn) =
+    occupant T G s v (T .elem p i) (l .spot .turn) (l .spot .low) (omega (arith, l .spot .high)) in
     record { rank = o .rank; lvl = o .lvl; on = o .on; is = l .target ∙ o .is }
 
 give-aims : (T : Tree) → Lawful T → (s : State) → Inv T s → (p h i t : ℕ) → s .ph p ≡ give h i t → Node T t
-give-aims T G s v p h i t e = let n : Successor T s p i t = successor T G s v p h i t e in record { rank = n .rank; lvl = i; on = n .on; is = n .target }
+give-aims T G s v p h i t e =
+    let n : Successor T s p i t = successor T G s v p h i t e in
+    record { rank = n .rank; lvl = i; on = n .on; is = n .target }
 
 abbrev Targets : Tree → Phase → Type 0
 Targets T out = Unit {0}
@@ -131,7 +139,8 @@ stage-1 R7 = 1
 stage-1 writes = 0
 stage-1 reads = 2
 
-reader-falls : (L : Plan) (s : Lock) (p : ℕ) (f : Place) → 0 < stage-1 f → f ≢ reads → Busy f × (stage-1 (row L s p f .place p) < stage-1 f)
+reader-falls : (L : Plan) (s : Lock) (p : ℕ) (f : Place) → 0 < stage-1 f → f ≢ reads
+    → Busy f × (stage-1 (row L s p f .place p) < stage-1 f)
 unfolding upd
 reader-falls L s p f a b = grind (arith, tells)
 
@@ -145,48 +154,116 @@ module _ (P : ℕ) (L : Plan) (g : Apt P L) where
   pub accept : (s : Lock) → Good P L s → (p : ℕ) → On P p → Busy (s .place p) → Accepted P L s (Step p)
   accept s v p on b =
       let q = v .safe .fine .queues in
-      let a : Aims T (s .place p) = aims T (s .place p) (s .st (T .node p (at-level (s .place p)))) (targets T (g .sensible .tree) (view T s) q p (phase T s p) refl) in
-      (on, accepts L s p (s .place p) (g .sensible .small) (q .range p) (v .safe .fine .sound p) (v .safe .within p) a b)
+      let a : Aims T (s .place p) =
+      aims T (s .place p) (s .st (T .node p (at-level (s .place p))))
+      (targets T (g .sensible .tree) (view T s) q p (phase T s p) refl) in (
+        on,
+        accepts L s p (s .place p) (g .sensible .small) (q .range p) (v .safe .fine .sound p) (v .safe .within p) a b,
+      )
 
   pub good-step : (s : Lock) → Good P L s → (p : ℕ) → On P p → Good P L (row L s p (s .place p))
   good-step s v p on =
       let e = g .sensible in
-      record { bit = bits P L (e .tree) (e .small) (e .cap) (e .ranks) (e .root) (e .homes) s (v .bit) (v .safe) (s .place p); safe = safe-row P L (e .tree) (e .small) (e .cap) (e .ranks) (e .root) (e .homes) s (v .bit) (v .safe) p (g .all p on) (s .place p) refl }
+      record {
+        bit =
+            bits P L (e .tree) (e .small) (e .cap) (e .ranks) (e .root) (e .homes) s (v .bit) (v .safe) (s .place p);
+        safe =
+            safe-row P L (e .tree) (e .small) (e .cap) (e .ranks) (e .root) (e .homes) s (v .bit) (v .safe) p
+            (g .all p on) (s .place p) refl;
+      }
 
   pub good-leave-read : (s : Lock) → Good P L s → (p : ℕ) → On P p → s .place p ≡ reads → Good P L (go s p R7)
   good-leave-read s v p on a =
       let e = g .sensible in
-      record { bit = v .bit; safe = safe-leave-read P L (e .tree) (e .small) (e .cap) (e .ranks) (e .root) (e .homes) s (v .bit) (v .safe) p on a }
+      record {
+        bit = v .bit;
+        safe =
+            safe-leave-read P L (e .tree) (e .small) (e .cap) (e .ranks) (e .root) (e .homes) s (v .bit) (v .safe) p
+            on a;
+      }
 
-  pub good-leave-write : (s : Lock) → Good P L s → (p : ℕ) → On P p → s .place p ≡ writes → Good P L (go s p (cond (leb (T .top p) 1) U4 (U1 (T .top p))))
+  pub good-leave-write : (s : Lock) → Good P L s → (p : ℕ) → On P p → s .place p ≡ writes
+      → Good P L (go s p (cond (leb (T .top p) 1) U4 (U1 (T .top p))))
   good-leave-write s v p on a =
       let e = g .sensible in
-      record { bit = v .bit; safe = safe-leave-write P L (e .tree) (e .small) (e .cap) (e .ranks) (e .root) (e .homes) s (v .bit) (v .safe) p a }
+      record {
+        bit = v .bit;
+        safe =
+            safe-leave-write P L (e .tree) (e .small) (e .cap) (e .ranks) (e .root) (e .homes) s (v .bit) (v .safe) p
+            a;
+      }
 
   -- the moves at a known place: what the state after it reaches, the state before it reaches
-  pub by-step : (Q : Lock → Type 0) (s : Lock) → Good P L s → (p : ℕ) → On P p → (f : Place) → s .place p ≡ f → Busy f → (Good P L (row L s p f) → Reach P L Q (row L s p f)) → Reach P L Q s
-  by-step Q s v p on f e b r = move s (Step p) (accept s v p on (subst Busy (sym e) b)) (subst (λ f. (Good P L (row L s p f) → Reach P L Q (row L s p f)) → Reach P L Q (row L s p (s .place p))) e (λ k. k (good-step s v p on)) r)
+  pub by-step : (Q : Lock → Type 0) (s : Lock) → Good P L s → (p : ℕ) → On P p → (f : Place) → s .place p ≡ f → Busy f
+      → (Good P L (row L s p f) → Reach P L Q (row L s p f)) → Reach P L Q s
+  by-step Q s v p on f e b r =
+      move s (Step p) (accept s v p on (subst Busy (sym e) b))
+      (subst
+      (λ f. (Good P L (row L s p f) → Reach P L Q (row L s p f)) → Reach P L Q (row L s p (s .place p)))
+      e
+      (λ k. k (good-step s v p on))
+      r)
 
-  pub by-leave-read : (Q : Lock → Type 0) (s : Lock) → Good P L s → (p : ℕ) → On P p → s .place p ≡ reads → (Good P L (go s p R7) → Reach P L Q (go s p R7)) → Reach P L Q s
-  by-leave-read Q s v p on e r = move s (Leave p) (on, subst In (sym e) (omega arith)) (subst (λ f. Reach P L Q (go s p (exit L p f))) (sym e) (r (good-leave-read s v p on e)))
+  pub by-leave-read : (Q : Lock → Type 0) (s : Lock) → Good P L s → (p : ℕ) → On P p → s .place p ≡ reads
+      → (Good P L (go s p R7) → Reach P L Q (go s p R7)) → Reach P L Q s
+  by-leave-read Q s v p on e r =
+      move s (Leave p) (on, subst In (sym e) (omega arith))
+      (subst (λ f. Reach P L Q (go s p (exit L p f))) (sym e) (r (good-leave-read s v p on e)))
 
-  pub by-leave-write : (Q : Lock → Type 0) (s : Lock) → Good P L s → (p : ℕ) → On P p → s .place p ≡ writes → (Good P L (go s p (cond (leb (T .top p) 1) U4 (U1 (T .top p)))) → Reach P L Q (go s p (cond (leb (T .top p) 1) U4 (U1 (T .top p))))) → Reach P L Q s
-  by-leave-write Q s v p on e r = move s (Leave p) (on, subst In (sym e) (omega arith)) (subst (λ f. Reach P L Q (go s p (exit L p f))) (sym e) (r (good-leave-write s v p on e)))
+  pub by-leave-write : (Q : Lock → Type 0) (s : Lock) → Good P L s → (p : ℕ) → On P p → s .place p ≡ writes
+      → (Good P L (go s p (cond (leb (T .top p) 1) U4 (U1 (T .top p))))
+      → Reach P L Q (go s p (cond (leb (T .top p) 1) U4 (U1 (T .top p))))) → Reach P L Q s
+  by-leave-write Q s v p on e r =
+      move s (Leave p) (on, subst In (sym e) (omega arith))
+      (subst (λ f. Reach P L Q (go s p (exit L p f))) (sym e) (r (good-leave-write s v p on e)))
 
   -- a rank's own number falls, and so does the sum
-  pub lowers : (num : ℕ → Place → ℕ) (s t : Lock) (p : ℕ) → On P p → ((q : ℕ) → q ≢ p → t .place q ≡ s .place q) → num p (t .place p) < num p (s .place p) → total P (λ q. num q (t .place q)) < total P (λ q. num q (s .place q))
-  lowers num s t p on e l = sum-falls P (λ q. num q (s .place q)) (λ q. num q (t .place q)) p on (λ q a. ap (num q) (e q a)) l
+  pub lowers : (num : ℕ → Place → ℕ) (s t : Lock) (p : ℕ) → On P p → ((q : ℕ) → q ≢ p → t .place q ≡ s .place q)
+      → num p (t .place p) < num p (s .place p)
+      → total P (λ q. num q (t .place q)) < total P (λ q. num q (s .place q))
+  lowers num s t p on e l =
+      sum-falls P (λ q. num q (s .place q)) (λ q. num q (t .place q)) p on (λ q a. ap (num q) (e q a)) l
 
-  one-reader : (s : Lock) → Good P L s → (p : ℕ) → On P p → 0 < stage-1 (s .place p) → Reach P L (Lower P L (λ q. stage-1) (Good P L) s) s
+  one-reader : (s : Lock) → Good P L s → (p : ℕ) → On P p → 0 < stage-1 (s .place p)
+      → Reach P L (Lower P L (λ q. stage-1) (Good P L) s) s
   one-reader s v p on h = by (reads-or (s .place p))
     where
       Q : Lock → Type 0
       Q = Lower P L (λ q. stage-1) (Good P L) s
 
       by : (s .place p ≡ reads) ⊎ (s .place p ≢ reads) → Reach P L Q s
-      by (inl e) = by-leave-read Q s v p on e (λ w. here (go s p R7) (w, lowers (λ q. stage-1) s (go s p R7) p on (λ q a. upd-other (s .place) p R7 q a) (rw (upd-same (s .place) p R7, e) (omega arith))))
-      by (inr n) = let d = reader-falls L s p (s .place p) h n in by-step Q s v p on (s .place p) refl (d .0) (λ w. here (row L s p (s .place p)) (w, lowers (λ q. stage-1) s (row L s p (s .place p)) p on (λ q a. row-other L s p (s .place p) q a) (d .1)))
+      by (inl e) =
+          by-leave-read Q s v p on e
+          (λ w.
+          here (go s p R7) (
+            w,
+            lowers
+                (λ q. stage-1)
+                s
+                (go s p R7)
+                p
+                on
+                (λ q a. upd-other (s .place) p R7 q a)
+                (rw (upd-same (s .place) p R7, e) (omega arith)),
+          ))
+      by (inr n) =
+          let d = reader-falls L s p (s .place p) h n in
+          by-step Q s v p on (s .place p) refl (d .0)
+          (λ w.
+          here (row L s p (s .place p)) (
+            w,
+            lowers
+                (λ q. stage-1)
+                s
+                (row L s p (s .place p))
+                p
+                on
+                (λ q a. row-other L s p (s .place p) q a)
+                (d .1),
+          ))
 
   -- stage 1: every reader is idle or at R3
-  pub stage-one : (s : Lock) → Good P L s → Reach P L (λ t. Good P L t × ((q : ℕ) → On P q → stage-1 (t .place q) ≡ 0)) s
-  stage-one s v = descend P L (λ q. stage-1) (Good P L) one-reader (Sum P L (λ q. stage-1) (Good P L) s) s v (omega arith)
+  pub stage-one : (s : Lock) → Good P L s
+      → Reach P L (λ t. Good P L t × ((q : ℕ) → On P q → stage-1 (t .place q) ≡ 0)) s
+  stage-one s v =
+      descend P L (λ q. stage-1) (Good P L) one-reader (Sum P L (λ q. stage-1) (Good P L) s) s v (omega arith)

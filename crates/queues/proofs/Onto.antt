@@ -32,12 +32,22 @@ module _ (P : ℕ) (L : Plan) (g : Apt P L) where
   -- every accepted move keeps the lock safe
   pub good-act : (s : Lock) → Good P L s → (m : Move) → Accepted P L s m → Good P L (act L s m)
   good-act s v (Step p) a = good-step P L g s v p (a .0)
-  good-act s v (Leave p) a = ⊎-elim (λ (e : s .place p ≡ writes). subst (λ f. Good P L (go s p (exit L p f))) (sym e) (good-leave-write P L g s v p (a .0) e)) (λ (e : s .place p ≡ reads). subst (λ f. Good P L (go s p (exit L p f))) (sym e) (good-leave-read P L g s v p (a .0) e)) (in-is (s .place p) (a .1))
+  good-act s v (Leave p) a =
+      ⊎-elim
+      (λ (e : s .place p ≡ writes).
+      subst (λ f. Good P L (go s p (exit L p f))) (sym e) (good-leave-write P L g s v p (a .0) e))
+      (λ (e : s .place p ≡ reads).
+      subst (λ f. Good P L (go s p (exit L p f))) (sym e) (good-leave-read P L g s v p (a .0) e))
+      (in-is (s .place p) (a .1))
 
   -- and is a call of a job
   pub job-act : (s : Lock) → Jobs P L s → (m : Move) → Accepted P L s m → Jobs P L (act L s m)
   job-act s j (Step p) a = stepped s p (g .all p (a .0)) j
-  job-act s j (Leave p) a = ⊎-elim (λ (e : s .place p ≡ writes). subst (λ f. Jobs P L (go s p (exit L p f))) (sym e) (left-write s p e j)) (λ (e : s .place p ≡ reads). subst (λ f. Jobs P L (go s p (exit L p f))) (sym e) (left-read s p (a .0) e j)) (in-is (s .place p) (a .1))
+  job-act s j (Leave p) a =
+      ⊎-elim
+      (λ (e : s .place p ≡ writes). subst (λ f. Jobs P L (go s p (exit L p f))) (sym e) (left-write s p e j))
+      (λ (e : s .place p ≡ reads). subst (λ f. Jobs P L (go s p (exit L p f))) (sym e) (left-read s p (a .0) e j))
+      (in-is (s .place p) (a .1))
 
   pub job-play : (ms : List Move) (s : Lock) → Jobs P L s → Plays P L s ms → Jobs P L (play L s ms)
   unfolding play Plays
@@ -45,20 +55,27 @@ module _ (P : ℕ) (L : Plan) (g : Apt P L) where
   job-play (m ∷ ms) s j a = job-play ms (act L s m) (job-act s j m (a .0)) (a .1)
 
   -- from every safe state, whether or not a job leads to it
-  pub safe-back : (s : Lock) (bit : ℕ → ℕ) → Safe P L s bit → (ms : List Move) × Plays P L s ms × AtRest P L (play L s ms)
+  pub safe-back : (s : Lock) (bit : ℕ → ℕ) → Safe P L s bit
+      → (ms : List Move) × Plays P L s ms × AtRest P L (play L s ms)
   safe-back s bit v = as-list P L (AtRest P L) s (back P L g s (record { bit = bit; safe = v }))
 
-  -- what has to be shown of a machine: each move that the lock accepts from a safe state it accepts too, and it goes on showing the lock
+  -- what has to be shown of a machine: each move that the lock accepts from a safe state it accepts too, and it goes
+  -- on showing the lock
   abbrev pub Follows : (B : Type 0) → (B → Move → B) → (B → Move → Type 0) → (B → Lock → Type 0) → Type 0
-  Follows B call Ok Shows = (b : B) (s : Lock) (m : Move) → Good P L s → Shows b s → Accepted P L s m → Ok b m × Shows (call b m) (act L s m)
+  Follows B call Ok Shows =
+      (b : B) (s : Lock) (m : Move) → Good P L s → Shows b s → Accepted P L s m
+      → Ok b m × Shows (call b m) (act L s m)
 
-  pub lifted : (B : Type 0) (call : B → Move → B) (Ok : B → Move → Type 0) (Shows : B → Lock → Type 0) → Follows B call Ok Shows → (Q : Lock → Type 0) (b : B) (s : Lock) → Good P L s → Shows b s → Reach P L Q s → (ms : List Move) × Oks call Ok b ms × ((t : Lock) × Good P L t × Q t × Shows (calls call b ms) t)
+  pub lifted : (B : Type 0) (call : B → Move → B) (Ok : B → Move → Type 0) (Shows : B → Lock → Type 0)
+      → Follows B call Ok Shows → (Q : Lock → Type 0) (b : B) (s : Lock) → Good P L s → Shows b s → Reach P L Q s
+      → (ms : List Move) × Oks call Ok b ms × ((t : Lock) × Good P L t × Q t × Shows (calls call b ms) t)
   lifted B call Ok Shows f Q b s v h (here s′ q) = ([], tt, (s′, v, q, h))
   lifted B call Ok Shows f Q b s v h (move s′ m a r) =
       let d = f b s′ m v h a in
       let w = lifted B call Ok Shows f Q (call b m) (act L s′ m) (good-act s′ v m a) (d .1) r in
       (m ∷ w .0, (d .0, w .1), w .2)
 
-  pub back-onto : (B : Type 0) (call : B → Move → B) (Ok : B → Move → Type 0) (Shows : B → Lock → Type 0) → Follows B call Ok Shows → (b : B) (s : Lock) → Good P L s → Shows b s → (ms : List Move) × Oks call Ok b ms × ((t : Lock) × Good P L t × AtRest P L t × Shows (calls call b ms) t)
+  pub back-onto : (B : Type 0) (call : B → Move → B) (Ok : B → Move → Type 0) (Shows : B → Lock → Type 0)
+      → Follows B call Ok Shows → (b : B) (s : Lock) → Good P L s → Shows b s
+      → (ms : List Move) × Oks call Ok b ms × ((t : Lock) × Good P L t × AtRest P L t × Shows (calls call b ms) t)
   back-onto B call Ok Shows f b s v h = lifted B call Ok Shows f (AtRest P L) b s v h (back P L g s v)
-

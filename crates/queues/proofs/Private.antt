@@ -1,10 +1,13 @@
--- A move that only its own rank sees: the hold level stays, and NEXT is written at most at a node that the rank has prepared and not joined with.
+-- A move that only its own rank sees: the hold level stays, and NEXT is written at most at a node that the rank has
+-- prepared and not joined with.
 -- Rows: ask to write, W1, W2, W6, U1, U2, U4, U5, U8, and all that leave the phase alone.
 use Prim.Native.Nat.{ℕ, suc, _≤_, _<_}
 use mathlib.Core.Path.{_≡_, refl, sym, _∙_, ap, subst}
 use mathlib.Core.Logic.{_⊎_, inl, inr, _≢_, ⊎-elim}
 use native.Mathlib.Omega.{arith}
-use Rattle.queues.specs.Machine.{Tree, Lawful, On, Phase, out, fresh, clean, ready, link, wait, hold, give, level, InRange, Waits, Calm, State, Inv, Holder, Member, Heads, Behind, Linking, Waiting, Asks}
+use Rattle.queues.specs.Machine.{Tree, Lawful, On, Phase, out, fresh, clean, ready, link, wait, hold, give, level}
+use Rattle.queues.specs.Machine.{InRange, Waits, Calm, State, Inv, Holder, Member, Heads, Behind, Linking, Waiting}
+use Rattle.queues.specs.Machine.{Asks}
 use Rattle.queues.proofs.Base.{range-of, one-owner, apart}
 use Rattle.queues.proofs.Split.{split}
 
@@ -26,20 +29,36 @@ pub record Prepares (T : Tree) (s : State) (p : ℕ) (ph : ℕ → Phase) (nx : 
   pub words : (y : ℕ) → (nx y ≡ s .nx y) ⊎ Mine T s p y
   pub says : Asks T (prepared s ph nx) p (ph p)
 
-module _ (T : Tree) (G : Lawful T) (s : State) (v : Inv T s) (p : ℕ) (ph : ℕ → Phase) (nx : ℕ → ℕ) (c : Prepares T s p ph nx) where
+module _ (T : Tree) (G : Lawful T) (s : State) (v : Inv T s) (p : ℕ) (ph : ℕ → Phase) (nx : ℕ → ℕ)
+    (c : Prepares T s p ph nx) where
   abbrev s′ : State
   s′ = prepared s ph nx
 
   levels′ : (q : ℕ) → level (T .top q) (ph q) ≡ level (T .top q) (s .ph q)
-  levels′ = split p (λ q. level (T .top q) (ph q) ≡ level (T .top q) (s .ph q)) (c .levels) (λ q a. ap (level (T .top q)) (c .others q a))
+  levels′ =
+      split p
+      (λ q. level (T .top q) (ph q) ≡ level (T .top q) (s .ph q))
+      (c .levels)
+      (λ q a. ap (level (T .top q)) (c .others q a))
 
   -- no queued node is written
   queued : (k a : ℕ) → s .lo k ≤ a → a < s .hi k → nx (s .at k a) ≡ s .nx (s .at k a)
-  queued k a l l′ = ⊎-elim (λ (z : nx (s .at k a) ≡ s .nx (s .at k a)). z) (λ (m : Mine T s p (s .at k a)). absurd (apart T G s v p (m .lvl) (m .on) (m .near) (c .idle (m .lvl)) k a l l′ (m .is))) (c .words (s .at k a))
+  queued k a l l′ =
+      ⊎-elim
+      (λ (z : nx (s .at k a) ≡ s .nx (s .at k a)). z)
+      (λ (m : Mine T s p (s .at k a)).
+      absurd (apart T G s v p (m .lvl) (m .on) (m .near) (c .idle (m .lvl)) k a l l′ (m .is)))
+      (c .words (s .at k a))
 
   -- no node of another rank is written
-  foreign : (q j : ℕ) → q ≢ p → On (T .top q) j → level (T .top q) (s .ph q) ≤ suc j → nx (T .node q j) ≡ s .nx (T .node q j)
-  foreign q j ne on l = ⊎-elim (λ (z : nx (T .node q j) ≡ s .nx (T .node q j)). z) (λ (m : Mine T s p (T .node q j)). absurd (ne (one-owner T G s v q p j (m .lvl) on (m .on) l (omega (arith, m .near)) (m .is) .0))) (c .words (T .node q j))
+  foreign : (q j : ℕ) → q ≢ p → On (T .top q) j → level (T .top q) (s .ph q) ≤ suc j
+      → nx (T .node q j) ≡ s .nx (T .node q j)
+  foreign q j ne on l =
+      ⊎-elim
+      (λ (z : nx (T .node q j) ≡ s .nx (T .node q j)). z)
+      (λ (m : Mine T s p (T .node q j)).
+      absurd (ne (one-owner T G s v q p j (m .lvl) on (m .on) l (omega (arith, m .near)) (m .is) .0)))
+      (c .words (T .node q j))
 
   behind : (q j : ℕ) → Behind T s q j → Behind T s′ q j
   behind q j b = record { turn = b .turn; low = b .low; high = b .high; is = b .is }
@@ -50,10 +69,20 @@ module _ (T : Tree) (G : Lawful T) (s : State) (v : Inv T s) (p : ℕ) (ph : ℕ
   asks-o q a (fresh j) w g o = tt
   asks-o q a (clean j) w g o = foreign q j a g (omega (arith, ap (level (T .top q)) w)) ∙ o
   asks-o q a (ready j) w g o = foreign q j a g (omega (arith, ap (level (T .top q)) w)) ∙ o
-  asks-o q a (link j u) w g o = record { spot = behind q j (o .spot); target = o .target; none = queued (T .elem q j) (o .spot .turn) (o .spot .low) (omega (arith, o .spot .high)) ∙ o .none }
-  asks-o q a (wait j) w g o = record { spot = behind q j (o .spot); linked = queued (T .elem q j) (o .spot .turn) (o .spot .low) (omega (arith, o .spot .high)) ∙ o .linked }
+  asks-o q a (link j u) w g o =
+      record {
+        spot = behind q j (o .spot);
+        target = o .target;
+        none = queued (T .elem q j) (o .spot .turn) (o .spot .low) (omega (arith, o .spot .high)) ∙ o .none;
+      }
+  asks-o q a (wait j) w g o =
+      record {
+        spot = behind q j (o .spot);
+        linked = queued (T .elem q j) (o .spot .turn) (o .spot .low) (omega (arith, o .spot .high)) ∙ o .linked;
+      }
   asks-o q a (hold j) w g o = tt
-  asks-o q a (give h j u) w g o = (o .0 ∙ sym (foreign q j a (omega arith) (omega (arith, ap (level (T .top q)) w))), o .1)
+  asks-o q a (give h j u) w g o =
+      (o .0 ∙ sym (foreign q j a (omega arith) (omega (arith, ap (level (T .top q)) w))), o .1)
 
   pub kept-by : Inv T s′
   kept-by =
@@ -64,8 +93,39 @@ module _ (T : Tree) (G : Lawful T) (s : State) (v : Inv T s) (p : ℕ) (ph : ℕ
         empty = v .empty;
         tail = v .tail;
         ends = λ k a l z. queued k a l (omega arith) ∙ v .ends k a l z;
-        heads = λ q j on l. let o = v .heads q j on (omega (arith, levels′ q)) in record { some = o .some; is = o .is };
-        holder = λ k l. let o = v .holder k l in record { rank = o .rank; lvl = o .lvl; on = o .on; queue = o .queue; is = o .is; holds = omega (arith, levels′ (o .rank), o .holds) };
-        member = λ k a l l′. let m = v .member k a l l′ in record { rank = m .rank; lvl = m .lvl; on = m .on; queue = m .queue; is = m .is; waits = split p (λ q. Waits (s .ph q) (m .lvl) → Waits (ph q) (m .lvl)) (λ w. absurd (c .idle (m .lvl) w)) (λ q x w. rw (c .others q x) w) (m .rank) (m .waits) };
-        asks = split p (λ q. Asks T s′ q (ph q)) (c .says) (λ q a. rw (c .others q a) (asks-o q a (s .ph q) refl (v .range q) (v .asks q)));
+        heads =
+            λ q j on l. let o = v .heads q j on (omega (arith, levels′ q)) in record { some = o .some; is = o .is };
+        holder =
+            λ k l.
+            let o = v .holder k l in
+            record {
+              rank = o .rank;
+              lvl = o .lvl;
+              on = o .on;
+              queue = o .queue;
+              is = o .is;
+              holds = omega (arith, levels′ (o .rank), o .holds);
+            };
+        member =
+            λ k a l l′.
+            let m = v .member k a l l′ in
+            record {
+              rank = m .rank;
+              lvl = m .lvl;
+              on = m .on;
+              queue = m .queue;
+              is = m .is;
+              waits =
+                  split p
+                  (λ q. Waits (s .ph q) (m .lvl) → Waits (ph q) (m .lvl))
+                  (λ w. absurd (c .idle (m .lvl) w))
+                  (λ q x w. rw (c .others q x) w)
+                  (m .rank)
+                  (m .waits);
+            };
+        asks =
+            split p
+            (λ q. Asks T s′ q (ph q))
+            (c .says)
+            (λ q a. rw (c .others q a) (asks-o q a (s .ph q) refl (v .range q) (v .asks q)));
       }

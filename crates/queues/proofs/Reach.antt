@@ -17,13 +17,15 @@ pub data Reach (P : ℕ) (L : Plan) (Q : Lock → Type 0) : Lock → Type 0 wher
   move : (s : Lock) (m : Move) → Accepted P L s m → Reach P L Q (act L s m) → Reach P L Q s
 
 -- the list of the moves
-pub as-list : (P : ℕ) (L : Plan) (Q : Lock → Type 0) (s : Lock) → Reach P L Q s → (ms : List Move) × Plays P L s ms × Q (play L s ms)
+pub as-list : (P : ℕ) (L : Plan) (Q : Lock → Type 0) (s : Lock) → Reach P L Q s
+    → (ms : List Move) × Plays P L s ms × Q (play L s ms)
 unfolding play Plays
 as-list P L Q s (here s′ q) = ([], tt, q)
 as-list P L Q s (move s′ m a r) = let w = as-list P L Q (act L s′ m) r in (m ∷ w .0, (a, w .1), w .2)
 
 -- one way after another
-pub onwards : (P : ℕ) (L : Plan) (Q R : Lock → Type 0) → ((t : Lock) → Q t → Reach P L R t) → (s : Lock) → Reach P L Q s → Reach P L R s
+pub onwards : (P : ℕ) (L : Plan) (Q R : Lock → Type 0) → ((t : Lock) → Q t → Reach P L R t) → (s : Lock)
+    → Reach P L Q s → Reach P L R s
 onwards P L Q R f s (here s′ q) = f s′ q
 onwards P L Q R f s (move s′ m a r) = move s′ m a (onwards P L Q R f (act L s′ m) r)
 
@@ -31,7 +33,15 @@ onwards P L Q R f s (move s′ m a r) = move s′ m a (onwards P L Q R f (act L 
 pub some-part : (n : ℕ) (f : ℕ → ℕ) → (total n f ≡ 0) ⊎ ((p : ℕ) × On n p × (0 < f p))
 unfolding total
 some-part zero f = inl refl
-some-part (suc n) f = ⊎-elim (λ (z : 0 < f (suc n)). inr (suc n, omega arith, z)) (λ (z : f (suc n) ≤ 0). ⊎-elim (λ (e : total n f ≡ 0). inl (omega arith)) (λ (w : (p : ℕ) × On n p × (0 < f p)). inr (w .0, omega (arith, w .1), w .2)) (some-part n f)) (cases-lt 0 (f (suc n)))
+some-part (suc n) f =
+    ⊎-elim
+    (λ (z : 0 < f (suc n)). inr (suc n, omega arith, z))
+    (λ (z : f (suc n) ≤ 0).
+    ⊎-elim
+    (λ (e : total n f ≡ 0). inl (omega arith))
+    (λ (w : (p : ℕ) × On n p × (0 < f p)). inr (w .0, omega (arith, w .1), w .2))
+    (some-part n f))
+    (cases-lt 0 (f (suc n)))
 
 -- while some rank's number is above 0, a way lowers the sum of the numbers: at the end all are 0
 module _ (P : ℕ) (L : Plan) (num : ℕ → Place → ℕ) (Keeps : Lock → Type 0) where
@@ -44,10 +54,13 @@ module _ (P : ℕ) (L : Plan) (num : ℕ → Place → ℕ) (Keeps : Lock → Ty
   abbrev pub Done : Lock → Type 0
   Done t = Keeps t × ((q : ℕ) → On P q → num q (t .place q) ≡ 0)
 
-  pub descend : ((s : Lock) → Keeps s → (p : ℕ) → On P p → 0 < num p (s .place p) → Reach P L (Lower s) s) → (d : ℕ) (s : Lock) → Keeps s → Sum s ≤ d → Reach P L Done s
+  pub descend : ((s : Lock) → Keeps s → (p : ℕ) → On P p → 0 < num p (s .place p) → Reach P L (Lower s) s)
+      → (d : ℕ) (s : Lock) → Keeps s → Sum s ≤ d → Reach P L Done s
   descend f zero s k l = here s (k, λ q on. omega (arith, total-part P (λ q. num q (s .place q)) q on))
   descend f (suc d) s k l = by (some-part P (λ q. num q (s .place q))) (λ t k′ l′. descend f d t k′ l′)
     where
-      by : (Sum s ≡ 0) ⊎ ((p : ℕ) × On P p × (0 < num p (s .place p))) → ((t : Lock) → Keeps t → Sum t ≤ d → Reach P L Done t) → Reach P L Done s
+      by : (Sum s ≡ 0) ⊎ ((p : ℕ) × On P p × (0 < num p (s .place p)))
+          → ((t : Lock) → Keeps t → Sum t ≤ d → Reach P L Done t) → Reach P L Done s
       by (inl z) again = here s (k, λ q on. omega (arith, total-part P (λ q. num q (s .place q)) q on))
-      by (inr w) again = onwards P L (Lower s) Done (λ t q. again t (q .0) (omega (arith, q .1))) s (f s k (w .0) (w .1) (w .2))
+      by (inr w) again =
+          onwards P L (Lower s) Done (λ t q. again t (q .0) (omega (arith, q .1))) s (f s k (w .0) (w .1) (w .2))

@@ -11,7 +11,9 @@ use Rattle.std.proofs.shelf.Ways.{tells}
 use Rattle.queues.specs.Machine.{Tree, Lawful, On, Phase, out, level, InRange, State, Inv, Holder}
 use Rattle.queues.specs.Counters.{total, tries, clears, Marks, shut, none}
 use Rattle.queues.specs.Counters
-use Rattle.queues.specs.Rows.{Place, idle, W1, W2, W3, W4, W5, W6, W7, W8, W9, U1, U2, U3, U4, U5, U6, U7, U8, U9, U10, R1, R2, R3, R4, R5, R6, R7, writes, reads, Plan, Lock, upd, phaseOf, at-level, phase, view, go, put-ar, put-de, row}
+use Rattle.queues.specs.Rows.{Place, idle, W1, W2, W3, W4, W5, W6, W7, W8, W9, U1, U2, U3, U4, U5, U6, U7, U8, U9}
+use Rattle.queues.specs.Rows.{U10, R1, R2, R3, R4, R5, R6, R7, writes, reads, Plan, Lock, upd, phaseOf, at-level}
+use Rattle.queues.specs.Rows.{phase, view, go, put-ar, put-de, row}
 use Rattle.queues.specs.Whole.{loadOf, gate, Within, Safe}
 use Rattle.queues.specs.Claim.{Jobs}
 use Rattle.queues.specs.Way.{tag, Move, Plays, play, AtRest, Apt, WayBack}
@@ -57,13 +59,42 @@ module _ (P : ℕ) (L : Plan) (g : Apt P L) where
   Resting s = Good P L s × ((q : ℕ) → On P q → Still (s .place q))
 
   still-phase : (s : Lock) → Resting s → (q : ℕ) → On (T .top q) 1 → level (T .top q) (phase T s q) ≡ suc (T .top q)
-  still-phase s v q o = ⊎-elim (λ (e : s .place q ≡ idle). ap (level (T .top q)) (phase-at T s q idle e)) (λ (e : s .place q ≡ R3). ap (level (T .top q)) (phase-at T s q R3 e)) (v .1 q (g .sensible .ranks q o))
+  still-phase s v q o =
+      ⊎-elim
+      (λ (e : s .place q ≡ idle). ap (level (T .top q)) (phase-at T s q idle e))
+      (λ (e : s .place q ≡ R3). ap (level (T .top q)) (phase-at T s q R3 e))
+      (v .1 q (g .sensible .ranks q o))
 
   still-gate : (s : Lock) → Resting s → (q c : ℕ) → Marks (gate T s q) c → ⊥
-  still-gate s v q c m = ⊎-elim (λ (z : gate T s q ≡ shut). subst (λ x. Marks x c) z m) (λ (z : (level (T .top q) (phase T s q) ≡ 1) × On (T .top q) 1). absurd (omega (arith, still-phase s v q (z .1)))) (gate-phase (T .top q) (s .place q) (s .st (T .node q (at-level (s .place q)))) (v .0 .safe .fine .queues .range q))
+  still-gate s v q c m =
+      ⊎-elim
+      (λ (z : gate T s q ≡ shut). subst (λ x. Marks x c) z m)
+      (λ (z : (level (T .top q) (phase T s q) ≡ 1) × On (T .top q) 1).
+      absurd (omega (arith, still-phase s v q (z .1))))
+      (gate-phase (T .top q) (s .place q) (s .st (T .node q (at-level (s .place q))))
+      (v .0 .safe .fine .queues .range q))
 
   pub calm : (s : Lock) → Resting s → Calm L s
-  calm s v = record { tails = λ k. inv .empty k (⊎-elim (λ (z : s .lo k < s .hi k). let h = inv .holder k z in absurd (omega (arith, h .holds, h .on, still-phase s v (h .rank) (omega (arith, h .on))))) (λ (z : s .hi k ≤ s .lo k). omega (arith, inv .order k)) (cases-lt (s .lo k) (s .hi k))); counts = λ c l. sums c l .0; small = λ c l. sums c l .1 }
+  calm s v =
+      record {
+        tails =
+            λ k.
+            inv .empty k
+            (⊎-elim
+            (λ (z : s .lo k < s .hi k).
+            let h = inv .holder k z in
+            absurd
+            (omega (
+              arith,
+              h .holds,
+              h .on,
+              still-phase s v (h .rank) (omega (arith, h .on)),
+            )))
+            (λ (z : s .hi k ≤ s .lo k). omega (arith, inv .order k))
+            (cases-lt (s .lo k) (s .hi k)));
+        counts = λ c l. sums c l .0;
+        small = λ c l. sums c l .1;
+      }
     where
       inv : Inv T (view T s)
       inv = v .0 .safe .fine .queues
@@ -71,10 +102,23 @@ module _ (P : ℕ) (L : Plan) (g : Apt P L) where
       sums : (c : ℕ) → c < L .counters → (s .ar c ≡ s .de c) × (s .de c ≤ L .TR)
       sums c l =
           let o = v .0 .safe .counted .each c l in
-          let n : (q : ℕ) → On P q → loadOf (L .home q) (s .place q) ≡ none = λ q on. still-none (L .home q) (s .place q) (v .1 q on) in
-          let x : total P (λ q. tries (loadOf (L .home q) (s .place q)) c) ≡ 0 = total-same P (λ q. 0) (λ q. tries (loadOf (L .home q) (s .place q)) c) (λ q a b. ap (λ y. tries y c) (n q (record { from = a; upto = b }))) ∙ total-zero P in
-          let y : total P (λ q. Counters.reads (loadOf (L .home q) (s .place q)) c) ≡ 0 = total-same P (λ q. 0) (λ q. Counters.reads (loadOf (L .home q) (s .place q)) c) (λ q a b. ap (λ y. Counters.reads y c) (n q (record { from = a; upto = b }))) ∙ total-zero P in
-          let z : total P (λ q. clears (loadOf (L .home q) (s .place q)) c) ≡ 0 = total-same P (λ q. 0) (λ q. clears (loadOf (L .home q) (s .place q)) c) (λ q a b. ap (λ y. clears y c) (n q (record { from = a; upto = b }))) ∙ total-zero P in
+          let n : (q : ℕ) → On P q → loadOf (L .home q) (s .place q) ≡ none =
+          λ q on. still-none (L .home q) (s .place q) (v .1 q on) in
+          let x : total P (λ q. tries (loadOf (L .home q) (s .place q)) c) ≡ 0 =
+          total-same P
+          (λ q. 0)
+          (λ q. tries (loadOf (L .home q) (s .place q)) c)
+          (λ q a b. ap (λ y. tries y c) (n q (record { from = a; upto = b }))) ∙ total-zero P in
+          let y : total P (λ q. Counters.reads (loadOf (L .home q) (s .place q)) c) ≡ 0 =
+          total-same P
+          (λ q. 0)
+          (λ q. Counters.reads (loadOf (L .home q) (s .place q)) c)
+          (λ q a b. ap (λ y. Counters.reads y c) (n q (record { from = a; upto = b }))) ∙ total-zero P in
+          let z : total P (λ q. clears (loadOf (L .home q) (s .place q)) c) ≡ 0 =
+          total-same P
+          (λ q. 0)
+          (λ q. clears (loadOf (L .home q) (s .place q)) c)
+          (λ q a b. ap (λ y. clears y c) (n q (record { from = a; upto = b }))) ∙ total-zero P in
           let b : v .0 .bit c ≢ 1 = λ w. still-gate s v (o .stands w .0) c (o .stands w .1) in
           (omega (arith, o .sum, o .bits), omega (arith, o .small))
 
@@ -85,8 +129,10 @@ module _ (P : ℕ) (L : Plan) (g : Apt P L) where
     pub now : t .place p ≡ idle
 
   -- R3, R1, in, R7
-  in-and-out : (s₀ s : Lock) → Good P L s → (p : ℕ) → On P p → ((q : ℕ) → q ≢ p → s .place q ≡ s₀ .place q) → s .place p ≡ R3 → s .ar (L .home p) < L .TR → Reach P L (Home s₀ p) s
-  in-and-out s₀ s v p on h e l = by-step P L g (Home s₀ p) s v p on R3 e (omega arith) (rw (lt-ltb (s .ar c) (L .TR) l) second)
+  in-and-out : (s₀ s : Lock) → Good P L s → (p : ℕ) → On P p → ((q : ℕ) → q ≢ p → s .place q ≡ s₀ .place q)
+      → s .place p ≡ R3 → s .ar (L .home p) < L .TR → Reach P L (Home s₀ p) s
+  in-and-out s₀ s v p on h e l =
+      by-step P L g (Home s₀ p) s v p on R3 e (omega arith) (rw (lt-ltb (s .ar c) (L .TR) l) second)
     where
       c : ℕ
       c = L .home p
@@ -104,17 +150,37 @@ module _ (P : ℕ) (L : Plan) (g : Apt P L) where
       s₄ = row L s₃ p R7
 
       fourth : Good P L s₃ → Reach P L (Home s₀ p) s₃
-      fourth w = by-step P L g (Home s₀ p) s₃ w p on R7 (upd-same (s₂ .place) p R7) (omega arith) (λ x. here s₄ (record { good = x; others = λ q a. upd-other (s₃ .place) p idle q a ∙ (upd-other (s₂ .place) p R7 q a ∙ (upd-other (s₁ .place) p reads q a ∙ (upd-other (s .place) p R1 q a ∙ h q a))); now = upd-same (s₃ .place) p idle }))
+      fourth w =
+          by-step P L g (Home s₀ p) s₃ w p on R7 (upd-same (s₂ .place) p R7) (omega arith)
+          (λ x.
+          here s₄ (record {
+            good = x;
+            others =
+                λ q a.
+                upd-other (s₃ .place) p idle q a
+                ∙ (upd-other (s₂ .place) p R7 q a
+                ∙ (upd-other (s₁ .place) p reads q a ∙ (upd-other (s .place) p R1 q a ∙ h q a)));
+            now = upd-same (s₃ .place) p idle;
+          }))
 
       third : Good P L s₂ → Reach P L (Home s₀ p) s₂
       third w = by-leave-read P L g (Home s₀ p) s₂ w p on (upd-same (s₁ .place) p reads) fourth
 
       second : Good P L s₁ → Reach P L (Home s₀ p) s₁
-      second w = by-step P L g (Home s₀ p) s₁ w p on R1 (upd-same (s .place) p R1) (omega arith) (rw (lt-ltb (s .ar c) (L .TR) l) third)
+      second w =
+          by-step P L g (Home s₀ p) s₁ w p on R1 (upd-same (s .place) p R1) (omega arith)
+          (rw (lt-ltb (s .ar c) (L .TR) l) third)
 
   -- R3, R4, R5, R6, and then as above
-  clear-first : (s : Lock) → Resting s → (p : ℕ) → On P p → s .place p ≡ R3 → L .TR ≤ s .ar (L .home p) → Reach P L (Home s p) s
-  clear-first s v p on e l = by-step P L g (Home s p) s (v .0) p on R3 e (omega arith) (rw (le-ltb (s .ar c) (L .TR) l, lt-leb (2 ^ 62) (s .ar c) (omega (arith, all .counts c hc, all .small c hc, g .less))) second)
+  clear-first : (s : Lock) → Resting s → (p : ℕ) → On P p → s .place p ≡ R3 → L .TR ≤ s .ar (L .home p)
+      → Reach P L (Home s p) s
+  clear-first s v p on e l =
+      by-step P L g (Home s p) s (v .0) p on R3 e (omega arith)
+      (rw (
+        le-ltb (s .ar c) (L .TR) l,
+        lt-leb (2 ^ 62) (s .ar c) (omega (arith, all .counts c hc, all .small c hc, g .less)),
+      )
+      second)
     where
       c : ℕ
       c = L .home p
@@ -141,7 +207,14 @@ module _ (P : ℕ) (L : Plan) (g : Apt P L) where
       s₄ = go (put-ar s₃ c (s .ar c - n)) p R3
 
       fifth : Good P L s₄ → Reach P L (Home s p) s₄
-      fifth w = in-and-out s s₄ w p on (λ q a. upd-other (s₃ .place) p R3 q a ∙ (upd-other (s₂ .place) p (R6 n) q a ∙ (upd-other (s₁ .place) p R5 q a ∙ upd-other (s .place) p R4 q a))) (upd-same (s₃ .place) p R3) (omega (arith, upd-same (s .ar) c (s .ar c - n), all .counts c hc, g .some))
+      fifth w =
+          in-and-out s s₄ w p on
+          (λ q a.
+          upd-other (s₃ .place) p R3 q a
+          ∙ (upd-other (s₂ .place) p (R6 n) q a
+          ∙ (upd-other (s₁ .place) p R5 q a ∙ upd-other (s .place) p R4 q a)))
+          (upd-same (s₃ .place) p R3)
+          (omega (arith, upd-same (s .ar) c (s .ar c - n), all .counts c hc, g .some))
 
       fourth : Good P L s₃ → Reach P L (Home s p) s₃
       fourth w = by-step P L g (Home s p) s₃ w p on (R6 n) (upd-same (s₂ .place) p (R6 n)) (omega arith) fifth
@@ -150,19 +223,38 @@ module _ (P : ℕ) (L : Plan) (g : Apt P L) where
       third w = by-step P L g (Home s p) s₂ w p on R5 (upd-same (s₁ .place) p R5) (omega arith) fourth
 
       second : Good P L s₁ → Reach P L (Home s p) s₁
-      second w = by-step P L g (Home s p) s₁ w p on R4 (upd-same (s .place) p R4) (omega arith) (rw (eq-eqb (s .tl (T .elem p 1)) 0 (all .tails (T .elem p 1))) third)
+      second w =
+          by-step P L g (Home s p) s₁ w p on R4 (upd-same (s .place) p R4) (omega arith)
+          (rw (eq-eqb (s .tl (T .elem p 1)) 0 (all .tails (T .elem p 1))) third)
 
-  one-home : (s : Lock) → Resting s → (p : ℕ) → On P p → 0 < stage-3 (s .place p) → Reach P L (Lower P L (λ q. stage-3) Resting s) s
-  one-home s v p on h = onwards P L (Home s p) (Lower P L (λ q. stage-3) Resting s) home s (⊎-elim (λ (z : s .ar (L .home p) < L .TR). in-and-out s s (v .0) p on (λ q a. refl) e z) (λ (z : L .TR ≤ s .ar (L .home p)). clear-first s v p on e z) (cases-lt (s .ar (L .home p)) (L .TR)))
+  one-home : (s : Lock) → Resting s → (p : ℕ) → On P p → 0 < stage-3 (s .place p)
+      → Reach P L (Lower P L (λ q. stage-3) Resting s) s
+  one-home s v p on h =
+      onwards P L (Home s p) (Lower P L (λ q. stage-3) Resting s) home s
+      (⊎-elim
+      (λ (z : s .ar (L .home p) < L .TR). in-and-out s s (v .0) p on (λ q a. refl) e z)
+      (λ (z : L .TR ≤ s .ar (L .home p)). clear-first s v p on e z)
+      (cases-lt (s .ar (L .home p)) (L .TR)))
     where
       e : s .place p ≡ R3
       e = waits-R3 (s .place p) h
 
       home : (t : Lock) → Home s p t → Reach P L (Lower P L (λ q. stage-3) Resting s) t
-      home t m = here t ((m .good, split p (λ q. On P q → Still (t .place q)) (λ _. inl (m .now)) (λ q a o. rw (m .others q a) (v .1 q o))), lowers P L g (λ q. stage-3) s t p on (m .others) (rw (m .now, e) (omega arith)))
+      home t m =
+          here t (
+            (
+              m .good,
+              split p
+                  (λ q. On P q → Still (t .place q))
+                  (λ _. inl (m .now))
+                  (λ q a o. rw (m .others q a) (v .1 q o)),
+            ),
+            lowers P L g (λ q. stage-3) s t p on (m .others) (rw (m .now, e) (omega arith)),
+          )
 
   -- stage 3: every rank is idle
-  pub stage-three : (s : Lock) → Resting s → Reach P L (λ t. Resting t × ((q : ℕ) → On P q → stage-3 (t .place q) ≡ 0)) s
+  pub stage-three : (s : Lock) → Resting s
+      → Reach P L (λ t. Resting t × ((q : ℕ) → On P q → stage-3 (t .place q) ≡ 0)) s
   stage-three s v = descend P L (λ q. stage-3) Resting one-home (Sum P L (λ q. stage-3) Resting s) s v (omega arith)
 
   -- all idle: nothing is left in the words
@@ -176,8 +268,27 @@ module _ (P : ℕ) (L : Plan) (g : Apt P L) where
       third t w = here t (rests t (w .0 .0) (λ q on. still-idle (t .place q) (w .0 .1 q on) (w .1 q on)))
 
       second : (t : Lock) → Quiet P L g t → Reach P L (AtRest P L) t
-      second t w = onwards P L (λ u. Quiet P L g u × ((q : ℕ) → On P q → stage-2 P L g q (u .place q) ≡ 0)) (AtRest P L) (λ u x. onwards P L (λ y. Resting y × ((q : ℕ) → On P q → stage-3 (y .place q) ≡ 0)) (AtRest P L) third u (stage-three u (x .0 .0, λ q on. still-place (T .top q) (L .counters) (u .place q) (x .0 .0 .safe .within q) (x .0 .1 q on) (x .1 q on)))) t (stage-two P L g t w)
+      second t w =
+          onwards P L
+          (λ u. Quiet P L g u × ((q : ℕ) → On P q → stage-2 P L g q (u .place q) ≡ 0))
+          (AtRest P L)
+          (λ u x.
+          onwards P L
+          (λ y. Resting y × ((q : ℕ) → On P q → stage-3 (y .place q) ≡ 0))
+          (AtRest P L)
+          third
+          u
+          (stage-three u (
+            x .0 .0,
+            λ q on.
+                still-place (T .top q) (L .counters) (u .place q) (x .0 .0 .safe .within q)
+                (x .0 .1 q on) (x .1 q on),
+          )))
+          t
+          (stage-two P L g t w)
 
 -- from every state of a job there is a way back to idle
 pub way-back : WayBack
-way-back P L g s j = let w = safe-job P L (g .sensible) s j in as-list P L (AtRest P L) s (back P L g s (record { bit = w .0; safe = w .1 }))
+way-back P L g s j =
+    let w = safe-job P L (g .sensible) s j in
+    as-list P L (AtRest P L) s (back P L g s (record { bit = w .0; safe = w .1 }))

@@ -4,7 +4,9 @@ use mathlib.Core.Path.{_≡_, refl, sym, _∙_, ap, subst}
 use mathlib.Core.Logic.{_⊎_, inl, inr, _≢_, ⊎-elim}
 use native.Mathlib.Omega.{arith}
 use Rattle.std.proofs.shelf.Tests.{cases-eq, cases-order}
-use Rattle.queues.specs.Machine.{Tree, Lawful, On, Phase, out, fresh, clean, ready, link, wait, hold, give, level, InRange, Waits, Calm, State, Inv, Holder, Member, Heads, Behind, Linking, Waiting, Asks}
+use Rattle.queues.specs.Machine.{Tree, Lawful, On, Phase, out, fresh, clean, ready, link, wait, hold, give, level}
+use Rattle.queues.specs.Machine.{InRange, Waits, Calm, State, Inv, Holder, Member, Heads, Behind, Linking, Waiting}
+use Rattle.queues.specs.Machine.{Asks}
 use Rattle.queues.proofs.Base.{range-of, one-holder, one-owner, waits-level, waits-on}
 use Rattle.queues.proofs.Split.{split, calm-asks}
 
@@ -21,7 +23,8 @@ pub record Frees (T : Tree) (s : State) (p i : ℕ) (ph : ℕ → Phase) (tl lo 
   pub gone : lo (T .elem p i) ≡ suc (s .lo (T .elem p i))
   pub stay : (k : ℕ) → k ≢ T .elem p i → lo k ≡ s .lo k
 
-module _ (T : Tree) (G : Lawful T) (s : State) (v : Inv T s) (p i : ℕ) (e : s .ph p ≡ hold i) (was : s .tl (T .elem p i) ≡ T .node p i) (ph : ℕ → Phase) (tl lo : ℕ → ℕ) (c : Frees T s p i ph tl lo) where
+module _ (T : Tree) (G : Lawful T) (s : State) (v : Inv T s) (p i : ℕ) (e : s .ph p ≡ hold i)
+    (was : s .tl (T .elem p i) ≡ T .node p i) (ph : ℕ → Phase) (tl lo : ℕ → ℕ) (c : Frees T s p i ph tl lo) where
   abbrev s′ : State
   s′ = freed s ph tl lo
 
@@ -43,38 +46,66 @@ module _ (T : Tree) (G : Lawful T) (s : State) (v : Inv T s) (p i : ℕ) (e : s 
       let k = T .elem p i in
       let a = pred (s .hi k) in
       let h : s .lo k < s .hi k = head-p .some in
-      let q : a ≡ s .lo k = v .once k a (s .lo k) (omega arith) (omega arith) (omega arith) h (sym (v .tail k a (omega arith) (omega arith)) ∙ (was ∙ sym (head-p .is))) in
+      let q : a ≡ s .lo k =
+      v .once k a (s .lo k) (omega arith) (omega arith) (omega arith) h
+      (sym (v .tail k a (omega arith) (omega arith)) ∙ (was ∙ sym (head-p .is))) in
       omega arith
 
   now-empty : lo (T .elem p i) ≡ s .hi (T .elem p i)
   now-empty = c .gone ∙ single
 
   order′ : (k : ℕ) → lo k ≤ s .hi k
-  order′ = split (T .elem p i) (λ k. lo k ≤ s .hi k) (omega (arith, now-empty)) (λ k ne. omega (arith, c .stay k ne, v .order k))
+  order′ =
+      split (T .elem p i)
+      (λ k. lo k ≤ s .hi k)
+      (omega (arith, now-empty))
+      (λ k ne. omega (arith, c .stay k ne, v .order k))
 
   lo-less : (k : ℕ) → s .lo k ≤ lo k
   lo-less = split (T .elem p i) (λ k. s .lo k ≤ lo k) (omega (arith, c .gone)) (λ k ne. omega (arith, c .stay k ne))
 
   tail′ : (k a : ℕ) → lo k ≤ a → suc a ≡ s .hi k → tl k ≡ s .at k a
-  tail′ = split (T .elem p i) (λ k. (a : ℕ) → lo k ≤ a → suc a ≡ s .hi k → tl k ≡ s .at k a) (λ a l z. absurd (omega (arith, now-empty))) (λ k ne a l z. rw (c .tails k ne) (v .tail k a (omega (arith, lo-less k)) z))
+  tail′ =
+      split (T .elem p i)
+      (λ k. (a : ℕ) → lo k ≤ a → suc a ≡ s .hi k → tl k ≡ s .at k a)
+      (λ a l z. absurd (omega (arith, now-empty)))
+      (λ k ne a l z. rw (c .tails k ne) (v .tail k a (omega (arith, lo-less k)) z))
 
   empty′ : (k : ℕ) → lo k ≡ s .hi k → tl k ≡ 0
-  empty′ = split (T .elem p i) (λ k. lo k ≡ s .hi k → tl k ≡ 0) (λ _. c .zero) (λ k ne z. c .tails k ne ∙ v .empty k (omega (arith, c .stay k ne)))
+  empty′ =
+      split (T .elem p i)
+      (λ k. lo k ≡ s .hi k → tl k ≡ 0)
+      (λ _. c .zero)
+      (λ k ne z. c .tails k ne ∙ v .empty k (omega (arith, c .stay k ne)))
 
   kept : (q j : ℕ) → T .elem q j ≢ T .elem p i → Heads T s q j → Heads T s′ q j
-  kept q j ne o = record { some = omega (arith, c .stay (T .elem q j) ne, o .some); is = rw (c .stay (T .elem q j) ne) (o .is) }
+  kept q j ne o =
+      record { some = omega (arith, c .stay (T .elem q j) ne, o .some); is = rw (c .stay (T .elem q j) ne) (o .is) }
 
   heads-p : (j : ℕ) → On (T .top p) j → level (T .top p) (ph p) ≤ j → Heads T s′ p j
-  heads-p j on l = kept p j (λ z. let w : j ≡ i = G .level-of p p j i on on-p z in omega (arith, c .giver)) (v .heads p j on (omega (arith, c .giver, level-p)))
+  heads-p j on l =
+      kept p j
+      (λ z. let w : j ≡ i = G .level-of p p j i on on-p z in omega (arith, c .giver))
+      (v .heads p j on (omega (arith, c .giver, level-p)))
 
   heads-o : (q : ℕ) → q ≢ p → (j : ℕ) → On (T .top q) j → level (T .top q) (ph q) ≤ j → Heads T s′ q j
-  heads-o q a j on l = let l′ : level (T .top q) (s .ph q) ≤ j = omega (arith, level-o q a) in kept q j (λ w. let z : j ≡ i = G .level-of q p j i on on-p w in a (one-holder T G s v q p j on (omega (arith, on-p)) l′ (omega (arith, level-p)) (w ∙ ap (T .elem p) (sym z)))) (v .heads q j on l′)
+  heads-o q a j on l =
+      let l′ : level (T .top q) (s .ph q) ≤ j = omega (arith, level-o q a) in
+      kept q j
+      (λ w.
+      let z : j ≡ i = G .level-of q p j i on on-p w in
+      a
+      (one-holder T G s v q p j on (omega (arith, on-p)) l′ (omega (arith, level-p))
+      (w ∙ ap (T .elem p) (sym z))))
+      (v .heads q j on l′)
 
   behind : (q j : ℕ) → Behind T s q j → Behind T s′ q j
   behind q j b = record { turn = b .turn; low = low (cases-eq (T .elem q j) (T .elem p i)); high = b .high; is = b .is }
     where
       low : (T .elem q j ≡ T .elem p i) ⊎ (T .elem q j ≡ T .elem p i → ⊥) → lo (T .elem q j) ≤ b .turn
-      low (inl z) = let l : s .lo (T .elem p i) ≤ b .turn = rw z at (b .low) in let m : suc (b .turn) < s .hi (T .elem p i) = rw z at (b .high) in absurd (omega (arith, single))
+      low (inl z) =
+          let l : s .lo (T .elem p i) ≤ b .turn = rw z at (b .low) in
+          let m : suc (b .turn) < s .hi (T .elem p i) = rw z at (b .high) in absurd (omega (arith, single))
       low (inr z) = rw (c .stay (T .elem q j) z) (b .low)
 
   asks-o : (q : ℕ) → (f : Phase) → Asks T s q f → Asks T s′ q f
@@ -89,16 +120,61 @@ module _ (T : Tree) (G : Lawful T) (s : State) (v : Inv T s) (p i : ℕ) (e : s 
   asks-o q (give g j u) o = o
 
   holder-o : (k : ℕ) → k ≢ T .elem p i → Holder T s k → Holder T s′ k
-  holder-o k ne o = split p (λ q. (j : ℕ) → On (T .top q) j → T .elem q j ≡ k → s .at k (s .lo k) ≡ T .node q j → level (T .top q) (s .ph q) ≤ j → Holder T s′ k) from-p from-o (o .rank) (o .lvl) (o .on) (o .queue) (o .is) (o .holds)
+  holder-o k ne o =
+      split p
+      (λ q.
+      (j : ℕ) → On (T .top q) j → T .elem q j ≡ k → s .at k (s .lo k) ≡ T .node q j
+      → level (T .top q) (s .ph q) ≤ j → Holder T s′ k)
+      from-p
+      from-o
+      (o .rank)
+      (o .lvl)
+      (o .on)
+      (o .queue)
+      (o .is)
+      (o .holds)
     where
-      from-p : (j : ℕ) → On (T .top p) j → T .elem p j ≡ k → s .at k (s .lo k) ≡ T .node p j → level (T .top p) (s .ph p) ≤ j → Holder T s′ k
-      from-p j on q is l = let d : j ≢ i = λ z. ne (sym q ∙ ap (T .elem p) z) in record { rank = p; lvl = j; on = on; queue = q; is = rw (c .stay k ne) is; holds = omega (arith, c .giver, level-p) }
+      from-p : (j : ℕ) → On (T .top p) j → T .elem p j ≡ k → s .at k (s .lo k) ≡ T .node p j
+          → level (T .top p) (s .ph p) ≤ j → Holder T s′ k
+      from-p j on q is l =
+          let d : j ≢ i = λ z. ne (sym q ∙ ap (T .elem p) z) in
+          record {
+            rank = p;
+            lvl = j;
+            on = on;
+            queue = q;
+            is = rw (c .stay k ne) is;
+            holds = omega (arith, c .giver, level-p);
+          }
 
-      from-o : (x : ℕ) → x ≢ p → (j : ℕ) → On (T .top x) j → T .elem x j ≡ k → s .at k (s .lo k) ≡ T .node x j → level (T .top x) (s .ph x) ≤ j → Holder T s′ k
-      from-o x a j on q is l = record { rank = x; lvl = j; on = on; queue = q; is = rw (c .stay k ne) is; holds = omega (arith, level-o x a) }
+      from-o : (x : ℕ) → x ≢ p → (j : ℕ) → On (T .top x) j → T .elem x j ≡ k → s .at k (s .lo k) ≡ T .node x j
+          → level (T .top x) (s .ph x) ≤ j → Holder T s′ k
+      from-o x a j on q is l =
+          record {
+            rank = x;
+            lvl = j;
+            on = on;
+            queue = q;
+            is = rw (c .stay k ne) is;
+            holds = omega (arith, level-o x a);
+          }
 
   member-of : (k a : ℕ) → Member T s k (suc a) → Member T s′ k (suc a)
-  member-of k a m = record { rank = m .rank; lvl = m .lvl; on = m .on; queue = m .queue; is = m .is; waits = split p (λ q. q ≡ m .rank → Waits (ph q) (m .lvl)) (λ z. absurd (subst (λ f. Waits f (m .lvl)) (ap (s .ph) (sym z) ∙ e) (m .waits))) (λ q x z. rw (c .others q x, z) (m .waits)) (m .rank) refl }
+  member-of k a m =
+      record {
+        rank = m .rank;
+        lvl = m .lvl;
+        on = m .on;
+        queue = m .queue;
+        is = m .is;
+        waits =
+            split p
+            (λ q. q ≡ m .rank → Waits (ph q) (m .lvl))
+            (λ z. absurd (subst (λ f. Waits f (m .lvl)) (ap (s .ph) (sym z) ∙ e) (m .waits)))
+            (λ q x z. rw (c .others q x, z) (m .waits))
+            (m .rank)
+            refl;
+      }
 
   pub retired : Inv T s′
   retired =
@@ -109,8 +185,17 @@ module _ (T : Tree) (G : Lawful T) (s : State) (v : Inv T s) (p i : ℕ) (e : s 
         empty = empty′;
         tail = tail′;
         ends = λ k a l z. v .ends k a (omega (arith, lo-less k)) z;
-        heads = split p (λ q. (j : ℕ) → On (T .top q) j → level (T .top q) (ph q) ≤ j → Heads T s′ q j) heads-p heads-o;
-        holder = split (T .elem p i) (λ k. lo k < s .hi k → Holder T s′ k) (λ z. absurd (omega (arith, now-empty))) (λ k ne l. holder-o k ne (v .holder k (omega (arith, c .stay k ne))));
+        heads =
+            split p (λ q. (j : ℕ) → On (T .top q) j → level (T .top q) (ph q) ≤ j → Heads T s′ q j) heads-p heads-o;
+        holder =
+            split (T .elem p i)
+            (λ k. lo k < s .hi k → Holder T s′ k)
+            (λ z. absurd (omega (arith, now-empty)))
+            (λ k ne l. holder-o k ne (v .holder k (omega (arith, c .stay k ne))));
         member = λ k a l l′. member-of k a (v .member k a (omega (arith, lo-less k)) l′);
-        asks = split p (λ q. Asks T s′ q (ph q)) (calm-asks T s′ p (ph p) (c .calm)) (λ q a. rw (c .others q a) (asks-o q (s .ph q) (v .asks q)));
+        asks =
+            split p
+            (λ q. Asks T s′ q (ph q))
+            (calm-asks T s′ p (ph p) (c .calm))
+            (λ q a. rw (c .others q a) (asks-o q (s .ph q) (v .asks q)));
       }

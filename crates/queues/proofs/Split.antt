@@ -4,7 +4,8 @@ use mathlib.Core.Path.{_≡_, refl, sym, _∙_, ap, subst}
 use mathlib.Core.Logic.{_⊎_, inl, inr, _≢_, ⊎-elim}
 use native.Mathlib.Omega.{arith}
 use Rattle.std.proofs.shelf.Tests.{cases-eq}
-use Rattle.queues.specs.Machine.{Tree, State, Phase, out, fresh, clean, ready, link, wait, hold, give, Calm, Waits, Asks}
+use Rattle.queues.specs.Machine.{Tree, State, Phase, out, fresh, clean, ready, link, wait, hold, give, Calm, Waits}
+use Rattle.queues.specs.Machine.{Asks}
 
 -- a claim on every number, from the claim at one and at the others
 pub split : (a : ℕ) (C : ℕ → Type 0) → C a → ((b : ℕ) → b ≢ a → C b) → (b : ℕ) → C b

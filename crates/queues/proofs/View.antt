@@ -6,8 +6,11 @@ use mathlib.Core.Bool.{Bool, true, false, cond}
 use lib.Dec.{eqb, leb}
 use native.Mathlib.Omega.{arith}
 use Rattle.std.proofs.shelf.Tests.{cases-eq, eq-eqb, ne-eqb, le-leb, lt-leb}
-use Rattle.queues.specs.Machine.{Tree, Lawful, On, Phase, out, fresh, clean, ready, link, wait, hold, give, level, InRange, State, Inv}
-use Rattle.queues.specs.Rows.{Place, idle, W1, W2, W3, W4, W5, W6, W7, W8, W9, U1, U2, U3, U4, U5, U6, U7, U8, U9, U10, R1, R2, R3, R4, R5, R6, R7, writes, reads, WAIT, tell, Plan, Lock, upd, phaseOf, at-level, phase, view, Counts, Sound, Fine}
+use Rattle.queues.specs.Machine.{Tree, Lawful, On, Phase, out, fresh, clean, ready, link, wait, hold, give, level}
+use Rattle.queues.specs.Machine.{InRange, State, Inv}
+use Rattle.queues.specs.Rows.{Place, idle, W1, W2, W3, W4, W5, W6, W7, W8, W9, U1, U2, U3, U4, U5, U6, U7, U8, U9}
+use Rattle.queues.specs.Rows.{U10, R1, R2, R3, R4, R5, R6, R7, writes, reads, WAIT, tell, Plan, Lock, upd, phaseOf}
+use Rattle.queues.specs.Rows.{at-level, phase, view, Counts, Sound, Fine}
 use Rattle.queues.proofs.Base.{one-owner}
 use Rattle.queues.proofs.Split.{split}
 
@@ -20,8 +23,21 @@ unfolding upd
 upd-other f a v b h = rw (ne-eqb b a h)
 
 -- THE FRAME: states with the same values have the same invariant
-pub framed : (T : Tree) (s s′ : State) → ((p : ℕ) → s .ph p ≡ s′ .ph p) → ((h : ℕ) → s .nx h ≡ s′ .nx h) → ((k : ℕ) → s .tl k ≡ s′ .tl k) → ((k a : ℕ) → s .at k a ≡ s′ .at k a) → ((k : ℕ) → s .lo k ≡ s′ .lo k) → ((k : ℕ) → s .hi k ≡ s′ .hi k) → Inv T s → Inv T s′
-framed T s s′ a b c d e f v = subst (Inv T) (λ i. record { ph = λ p. a p i; nx = λ h. b h i; tl = λ k. c k i; at = λ k n. d k n i; lo = λ k. e k i; hi = λ k. f k i }) v
+pub framed : (T : Tree) (s s′ : State) → ((p : ℕ) → s .ph p ≡ s′ .ph p) → ((h : ℕ) → s .nx h ≡ s′ .nx h)
+    → ((k : ℕ) → s .tl k ≡ s′ .tl k) → ((k a : ℕ) → s .at k a ≡ s′ .at k a) → ((k : ℕ) → s .lo k ≡ s′ .lo k)
+    → ((k : ℕ) → s .hi k ≡ s′ .hi k) → Inv T s → Inv T s′
+framed T s s′ a b c d e f v =
+    subst (Inv T)
+    (λ i.
+    record {
+      ph = λ p. a p i;
+      nx = λ h. b h i;
+      tl = λ k. c k i;
+      at = λ k n. d k n i;
+      lo = λ k. e k i;
+      hi = λ k. f k i;
+    })
+    v
 
 -- a phase reads a word at W5 alone
 pub phase-same : (f : Place) (w w′ : ℕ) → ((j : ℕ) → f ≡ W5 j → w′ ≡ w) → phaseOf f w′ ≡ phaseOf f w
@@ -66,7 +82,11 @@ pub w5-told : (i w : ℕ) → w ≢ WAIT → 1000 < w → phaseOf (W5 i) w ≡ h
 w5-told i w e h = rw (ne-eqb w WAIT e, lt-leb w 1000 h)
 
 pub tell-big : (i : ℕ) → (WAIT < tell i) × (1000 < tell i)
-tell-big i = ⊎-elim (λ (z : i ≡ 1). rw (eq-eqb i 1 z) (omega arith)) (λ (z : i ≡ 1 → ⊥). rw (ne-eqb i 1 z) (omega arith)) (cases-eq i 1)
+tell-big i =
+    ⊎-elim
+    (λ (z : i ≡ 1). rw (eq-eqb i 1 z) (omega arith))
+    (λ (z : i ≡ 1 → ⊥). rw (ne-eqb i 1 z) (omega arith))
+    (cases-eq i 1)
 
 -- at W5 a rank holds all below
 w5-levels : (top i : ℕ) (a b : Bool) → level top (cond a (wait i) (cond b (hold 1) (hold i))) ≤ suc i
@@ -85,8 +105,13 @@ module _ (L : Plan) (small : (q j : ℕ) → L .cap q j ≤ 1000) (st st′ : �
   counts-same : (h from : ℕ) → h ≤ suc from → 1 ≤ from → Same h → Counts L st q from → Counts L st′ q from
   counts-same h from l o e c j a b = rw (e j (omega arith) (omega arith)) (c j a b)
 
-  sound-w5 : (i : ℕ) → Same (level (L .tree .top q) (phaseOf (W5 i) (st (L .tree .node q i)))) → Sound L st q (W5 i) → Sound L st′ q (W5 i)
-  sound-w5 i e c = (c .0, counts-same (level (L .tree .top q) (phaseOf (W5 i) w)) (suc i) (omega (arith, lv)) (omega arith) e (c .1), by (c .2))
+  sound-w5 : (i : ℕ) → Same (level (L .tree .top q) (phaseOf (W5 i) (st (L .tree .node q i)))) → Sound L st q (W5 i)
+      → Sound L st′ q (W5 i)
+  sound-w5 i e c = (
+    c .0,
+    counts-same (level (L .tree .top q) (phaseOf (W5 i) w)) (suc i) (omega (arith, lv)) (omega arith) e (c .1),
+    by (c .2),
+  )
     where
       w : ℕ
       w = st (L .tree .node q i)
@@ -94,17 +119,24 @@ module _ (L : Plan) (small : (q j : ℕ) → L .cap q j ≤ 1000) (st st′ : �
       lv : level (L .tree .top q) (phaseOf (W5 i) w) ≤ suc i
       lv = w5-level (L .tree .top q) i w
 
-      by : (w ≡ WAIT) ⊎ ((w ≡ tell i) ⊎ Counts L st q 1) → (st′ (L .tree .node q i) ≡ WAIT) ⊎ ((st′ (L .tree .node q i) ≡ tell i) ⊎ Counts L st′ q 1)
+      by : (w ≡ WAIT) ⊎ ((w ≡ tell i) ⊎ Counts L st q 1)
+          → (st′ (L .tree .node q i) ≡ WAIT) ⊎ ((st′ (L .tree .node q i) ≡ tell i) ⊎ Counts L st′ q 1)
       by (inl z) = inl (e i (c .0) lv ∙ z)
       by (inr (inl z)) = inr (inl (e i (c .0) lv ∙ z))
-      by (inr (inr z)) = let one : level (L .tree .top q) (phaseOf (W5 i) w) ≡ 1 = ap (level (L .tree .top q)) (w5-count i w (omega (arith, z i (c .0 .from) (c .0 .upto), small i))) in inr (inr (counts-same (level (L .tree .top q) (phaseOf (W5 i) w)) 1 (omega arith) (omega arith) e z))
+      by (inr (inr z)) =
+          let one : level (L .tree .top q) (phaseOf (W5 i) w) ≡ 1 =
+          ap (level (L .tree .top q)) (w5-count i w (omega (arith, z i (c .0 .from) (c .0 .upto), small i))) in
+          inr (inr (counts-same (level (L .tree .top q) (phaseOf (W5 i) w)) 1 (omega arith) (omega arith) e z))
 
-  pub sound-same : (f : Place) → Same (level (L .tree .top q) (phaseOf f (st (L .tree .node q (at-level f))))) → Sound L st q f → InRange (L .tree .top q) (phaseOf f (st (L .tree .node q (at-level f)))) → Sound L st′ q f
+  pub sound-same : (f : Place) → Same (level (L .tree .top q) (phaseOf f (st (L .tree .node q (at-level f)))))
+      → Sound L st q f → InRange (L .tree .top q) (phaseOf f (st (L .tree .node q (at-level f)))) → Sound L st′ q f
   sound-same idle e c o = tt
   sound-same (W1 i) e c o = counts-same (suc i) (suc i) (omega arith) (omega arith) e c
   sound-same (W2 i) e c o = counts-same (suc i) (suc i) (omega arith) (omega arith) e c
-  sound-same (W3 i) e c o = (e i o (omega arith) ∙ c .0, counts-same (suc i) (suc i) (omega arith) (omega arith) e (c .1))
-  sound-same (W4 i t) e c o = (e i o (omega arith) ∙ c .0, counts-same (suc i) (suc i) (omega arith) (omega arith) e (c .1))
+  sound-same (W3 i) e c o =
+      (e i o (omega arith) ∙ c .0, counts-same (suc i) (suc i) (omega arith) (omega arith) e (c .1))
+  sound-same (W4 i t) e c o =
+      (e i o (omega arith) ∙ c .0, counts-same (suc i) (suc i) (omega arith) (omega arith) e (c .1))
   sound-same (W5 i) e c o = sound-w5 i e c
   sound-same (W6 i) e c o = counts-same i (suc i) (omega arith) (omega arith) e c
   sound-same (W7 n) e c o = counts-same 1 1 (omega arith) (omega arith) e c

@@ -5,10 +5,15 @@ use mathlib.Core.Logic.{_⊎_, inl, inr, _≢_, ⊎-elim}
 use mathlib.Core.Bool.{Bool, true, false, cond}
 use lib.Dec.{eqb, leb, ltb}
 use native.Mathlib.Omega.{arith}
-use Rattle.std.proofs.shelf.Tests.{cases-eq, cases-lt, cond-both, eq-eqb, ne-eqb, le-leb, lt-leb, eqb-true, eqb-false, leb-true, leb-false, ltb-true, ltb-false}
+use Rattle.std.proofs.shelf.Tests.{cases-eq, cases-lt, cond-both, eq-eqb, ne-eqb, le-leb, lt-leb, eqb-true, eqb-false}
+use Rattle.std.proofs.shelf.Tests.{leb-true, leb-false, ltb-true, ltb-false}
 use Rattle.queues.specs.Machine.{Tree, Lawful, On, Phase, wait, hold, give, level, InRange, Waits, Inv}
-use Rattle.queues.specs.Rows.{Place, idle, W1, W2, W3, W4, W5, W6, W7, W8, W9, U1, U2, U3, U4, U5, U6, U7, U8, U9, U10, R1, R2, R3, R4, R5, R6, R7, writes, reads, WAIT, tell, Plan, Lock, upd, phaseOf, at-level, phase, view, Sound, Fine, go, put-st, free, done, next, row}
-use Rattle.queues.specs.Counters.{total, pick, Load, none, trying, inside, leaving, carrying, clearing, tries, clears, Gate, shut, raising, checking, reading, wide, lowering, Marks, Keeps, Tally, F, Count, Counted}
+use Rattle.queues.specs.Rows.{Place, idle, W1, W2, W3, W4, W5, W6, W7, W8, W9, U1, U2, U3, U4, U5, U6, U7, U8, U9}
+use Rattle.queues.specs.Rows.{U10, R1, R2, R3, R4, R5, R6, R7, writes, reads, WAIT, tell, Plan, Lock, upd, phaseOf}
+use Rattle.queues.specs.Rows.{at-level, phase, view, Sound, Fine, go, put-st, free, done, next, row}
+use Rattle.queues.specs.Counters.{total, pick, Load, none, trying, inside, leaving, carrying, clearing, tries, clears}
+use Rattle.queues.specs.Counters.{Gate, shut, raising, checking, reading, wide, lowering, Marks, Keeps, Tally, F}
+use Rattle.queues.specs.Counters.{Count, Counted}
 use Rattle.queues.specs.Counters
 use Rattle.queues.specs.Whole.{gateOf, loadOf, Within, gate, tally, Safe}
 use Rattle.queues.proofs.Base.{one-holder, Successor, successor}
@@ -17,8 +22,10 @@ use Rattle.queues.proofs.Sum.{pick-same, pick-other, total-part, total-same, t
 use Rattle.queues.proofs.View.{upd-same, upd-other, w5-level, tell-big}
 use Rattle.queues.proofs.Counters.{Local, Shift, Drains, drained, Enters, entered, nobody-in}
 use Rattle.queues.proofs.Gates.{Flips, flipped, Trades, traded}
-use Rattle.queues.proofs.Steps.{phase-at, st-other, only-W5, fine-row, fine-ask-write, fine-ask-read, fine-leave-write, fine-leave-read, fine-start, one-writer}
-use Rattle.queues.specs.Claim.{fresh-lock, Sensible, Jobs, start, stepped, asked-write, asked-read, left-write, left-read, Exclusion}
+use Rattle.queues.proofs.Steps.{phase-at, st-other, only-W5, fine-row, fine-ask-write, fine-ask-read}
+use Rattle.queues.proofs.Steps.{fine-leave-write, fine-leave-read, fine-start, one-writer}
+use Rattle.queues.specs.Claim.{fresh-lock, Sensible, Jobs, start, stepped, asked-write, asked-read, left-write}
+use Rattle.queues.specs.Claim.{left-read, Exclusion}
 
 -- a gate reads a word at W5 alone
 pub gate-same : (f : Place) (w w′ : ℕ) → ((j : ℕ) → f ≡ W5 j → w′ ≡ w) → gateOf f w′ ≡ gateOf f w
@@ -52,13 +59,16 @@ gate-same R7 w w′ e = refl
 gate-same writes w w′ e = refl
 gate-same reads w w′ e = refl
 
-gate-w5 : (top i : ℕ) (a b : Bool) → InRange top (cond a (wait i) (cond b (hold 1) (hold i))) → (cond a shut (cond b wide shut) ≡ shut) ⊎ ((level top (cond a (wait i) (cond b (hold 1) (hold i))) ≡ 1) × On top 1)
+gate-w5 : (top i : ℕ) (a b : Bool) → InRange top (cond a (wait i) (cond b (hold 1) (hold i)))
+    → (cond a shut (cond b wide shut) ≡ shut)
+    ⊎ ((level top (cond a (wait i) (cond b (hold 1) (hold i))) ≡ 1) × On top 1)
 gate-w5 top i true b r = inl refl
 gate-w5 top i false true r = inr (refl, r)
 gate-w5 top i false false r = inl refl
 
 -- who stands for a bit holds the whole machine
-pub gate-phase : (top : ℕ) (f : Place) (w : ℕ) → InRange top (phaseOf f w) → (gateOf f w ≡ shut) ⊎ ((level top (phaseOf f w) ≡ 1) × On top 1)
+pub gate-phase : (top : ℕ) (f : Place) (w : ℕ) → InRange top (phaseOf f w)
+    → (gateOf f w ≡ shut) ⊎ ((level top (phaseOf f w) ≡ 1) × On top 1)
 gate-phase top idle w r = inl refl
 gate-phase top (W1 i) w r = inl refl
 gate-phase top (W2 i) w r = inl refl
@@ -89,20 +99,30 @@ gate-phase top R7 w r = inl refl
 gate-phase top writes w r = inr (refl, r)
 gate-phase top reads w r = inl refl
 
-pub gate-at : (T : Tree) (s : Lock) (p : ℕ) (f : Place) → s .place p ≡ f → gate T s p ≡ gateOf f (s .st (T .node p (at-level f)))
+pub gate-at : (T : Tree) (s : Lock) (p : ℕ) (f : Place) → s .place p ≡ f
+    → gate T s p ≡ gateOf f (s .st (T .node p (at-level f)))
 gate-at T s p f e = ap (λ g. gateOf g (s .st (T .node p (at-level g)))) e
 
-pub gate-now : (T : Tree) (s : Lock) (p : ℕ) (f : Place) → gate T (go s p f) p ≡ gateOf f (s .st (T .node p (at-level f)))
+pub gate-now : (T : Tree) (s : Lock) (p : ℕ) (f : Place)
+    → gate T (go s p f) p ≡ gateOf f (s .st (T .node p (at-level f)))
 gate-now T s p f = gate-at T (go s p f) p f (upd-same (s .place) p f)
 
 pub gate-other : (T : Tree) (s : Lock) (p : ℕ) (f : Place) (q : ℕ) → q ≢ p → gate T (go s p f) q ≡ gate T s q
 gate-other T s p f q a = ap (λ g. gateOf g (s .st (T .node q (at-level g)))) (upd-other (s .place) p f q a)
 
 -- tallies with the same values
-pub tallied : (P C TR : ℕ) (s s′ : Tally) → ((p : ℕ) → s .load p ≡ s′ .load p) → ((p : ℕ) → s .gate p ≡ s′ .gate p) → ((c : ℕ) → s .ar c ≡ s′ .ar c) → ((c : ℕ) → s .de c ≡ s′ .de c) → ((c : ℕ) → s .bit c ≡ s′ .bit c) → Counted P C TR s → Counted P C TR s′
-tallied P C TR s s′ a b c d e v = subst (Counted P C TR) (λ i. record { load = λ p. a p i; gate = λ p. b p i; ar = λ n. c n i; de = λ n. d n i; bit = λ n. e n i }) v
+pub tallied : (P C TR : ℕ) (s s′ : Tally) → ((p : ℕ) → s .load p ≡ s′ .load p) → ((p : ℕ) → s .gate p ≡ s′ .gate p)
+    → ((c : ℕ) → s .ar c ≡ s′ .ar c) → ((c : ℕ) → s .de c ≡ s′ .de c) → ((c : ℕ) → s .bit c ≡ s′ .bit c)
+    → Counted P C TR s → Counted P C TR s′
+tallied P C TR s s′ a b c d e v =
+    subst (Counted P C TR)
+    (λ i. record { load = λ p. a p i; gate = λ p. b p i; ar = λ n. c n i; de = λ n. d n i; bit = λ n. e n i })
+    v
 
-module _ (P : ℕ) (L : Plan) (G : Lawful (L .tree)) (small : (q j : ℕ) → L .cap q j ≤ 1000) (cap : L .TR ≤ F) (ranks : (p : ℕ) → On (L .tree .top p) 1 → On P p) (root : (p q : ℕ) → On (L .tree .top p) 1 → On (L .tree .top q) 1 → L .tree .elem p 1 ≡ L .tree .elem q 1) (homes : (p : ℕ) → L .home p < L .counters) (s : Lock) (bit : ℕ → ℕ) (v : Safe P L s bit) where
+module _ (P : ℕ) (L : Plan) (G : Lawful (L .tree)) (small : (q j : ℕ) → L .cap q j ≤ 1000) (cap : L .TR ≤ F)
+    (ranks : (p : ℕ) → On (L .tree .top p) 1 → On P p)
+    (root : (p q : ℕ) → On (L .tree .top p) 1 → On (L .tree .top q) 1 → L .tree .elem p 1 ≡ L .tree .elem q 1)
+    (homes : (p : ℕ) → L .home p < L .counters) (s : Lock) (bit : ℕ → ℕ) (v : Safe P L s bit) where
   abbrev T : Tree
   T = L .tree
 
@@ -114,14 +134,70 @@ module _ (P : ℕ) (L : Plan) (G : Lawful (L .tree)) (small : (q j : ℕ) → L 
 
   -- while p holds the whole machine, all other gates are shut
   alone : (p : ℕ) → On (T .top p) 1 → level (T .top p) (phase T s p) ≤ 1 → (q : ℕ) → q ≢ p → gate T s q ≡ shut
-  alone p o l q a = ⊎-elim (λ (z : gate T s q ≡ shut). z) (λ (z : (level (T .top q) (phase T s q) ≡ 1) × On (T .top q) 1). absurd (a (one-holder T G (view T s) inv q p 1 (z .1) o (omega arith) l (root q p (z .1) o)))) (gate-phase (T .top q) (s .place q) (s .st (T .node q (at-level (s .place q)))) (inv .range q))
+  alone p o l q a =
+      ⊎-elim
+      (λ (z : gate T s q ≡ shut). z)
+      (λ (z : (level (T .top q) (phase T s q) ≡ 1) × On (T .top q) 1).
+      absurd (a (one-holder T G (view T s) inv q p 1 (z .1) o (omega arith) l (root q p (z .1) o))))
+      (gate-phase (T .top q) (s .place q) (s .st (T .node q (at-level (s .place q)))) (inv .range q))
 
-  gate-st : (o i u : ℕ) → On (T .top o) i → level (T .top o) (phase T s o) ≤ suc i → (q : ℕ) → q ≢ o → gate T (put-st s (T .node o i) u) q ≡ gate T s q
-  gate-st o i u on l q a = gate-same (s .place q) (s .st (T .node q (at-level (s .place q)))) (upd (s .st) (T .node o i) u (T .node q (at-level (s .place q)))) (λ j e. subst (λ f. upd (s .st) (T .node o i) u (T .node q (at-level f)) ≡ s .st (T .node q (at-level f))) (sym e) (st-other L G small s (v .fine) o i u on l q j a (subst (Sound L (s .st) q) e (v .fine .sound q) .0) (rw (phase-at T s q (W5 j) e) (w5-level (T .top q) j (s .st (T .node q j))))))
+  gate-st : (o i u : ℕ) → On (T .top o) i → level (T .top o) (phase T s o) ≤ suc i → (q : ℕ) → q ≢ o
+      → gate T (put-st s (T .node o i) u) q ≡ gate T s q
+  gate-st o i u on l q a =
+      gate-same (s .place q) (s .st (T .node q (at-level (s .place q))))
+      (upd (s .st) (T .node o i) u (T .node q (at-level (s .place q))))
+      (λ j e.
+      subst
+      (λ f. upd (s .st) (T .node o i) u (T .node q (at-level f)) ≡ s .st (T .node q (at-level f)))
+      (sym e)
+      (st-other L G small s (v .fine) o i u on l q j a (subst (Sound L (s .st) q) e (v .fine .sound q) .0)
+      (rw (phase-at T s q (W5 j) e) (w5-level (T .top q) j (s .st (T .node q j))))))
 
   -- rows that leave loads and gates alone
-  still : (st : ℕ → ℕ) (p : ℕ) (g : Place) → gateOf g (st (T .node p (at-level g))) ≡ gate T s p → loadOf (L .home p) g ≡ loadOf (L .home p) (s .place p) → ((q : ℕ) → q ≢ p → gateOf (s .place q) (st (T .node q (at-level (s .place q)))) ≡ gate T s q) → Counted P C (L .TR) (tally L (record { place = upd (s .place) p g; nx = s .nx; st = st; tl = s .tl; ar = s .ar; de = s .de; at = s .at; lo = s .lo; hi = s .hi }) bit)
-  still st p g x y z = tallied P C (L .TR) (tally L s bit) (tally L (record { place = upd (s .place) p g; nx = s .nx; st = st; tl = s .tl; ar = s .ar; de = s .de; at = s .at; lo = s .lo; hi = s .hi }) bit) (split p (λ q. loadOf (L .home q) (s .place q) ≡ loadOf (L .home q) (upd (s .place) p g q)) (rw (upd-same (s .place) p g) (sym y)) (λ q a. rw (upd-other (s .place) p g q a))) (split p (λ q. gate T s q ≡ gateOf (upd (s .place) p g q) (st (T .node q (at-level (upd (s .place) p g q))))) (rw (upd-same (s .place) p g) (sym x)) (λ q a. rw (upd-other (s .place) p g q a) (sym (z q a)))) (λ c. refl) (λ c. refl) (λ c. refl) (v .counted)
+  still : (st : ℕ → ℕ) (p : ℕ) (g : Place) → gateOf g (st (T .node p (at-level g))) ≡ gate T s p
+      → loadOf (L .home p) g ≡ loadOf (L .home p) (s .place p)
+      → ((q : ℕ) → q ≢ p → gateOf (s .place q) (st (T .node q (at-level (s .place q)))) ≡ gate T s q)
+      → Counted P C (L .TR)
+      (tally L
+      (record {
+        place = upd (s .place) p g;
+        nx = s .nx;
+        st = st;
+        tl = s .tl;
+        ar = s .ar;
+        de = s .de;
+        at = s .at;
+        lo = s .lo;
+        hi = s .hi;
+      })
+      bit)
+  still st p g x y z =
+      tallied P C (L .TR) (tally L s bit)
+      (tally L
+      (record {
+        place = upd (s .place) p g;
+        nx = s .nx;
+        st = st;
+        tl = s .tl;
+        ar = s .ar;
+        de = s .de;
+        at = s .at;
+        lo = s .lo;
+        hi = s .hi;
+      })
+      bit)
+      (split p
+      (λ q. loadOf (L .home q) (s .place q) ≡ loadOf (L .home q) (upd (s .place) p g q))
+      (rw (upd-same (s .place) p g) (sym y))
+      (λ q a. rw (upd-other (s .place) p g q a)))
+      (split p
+      (λ q. gate T s q ≡ gateOf (upd (s .place) p g q) (st (T .node q (at-level (upd (s .place) p g q)))))
+      (rw (upd-same (s .place) p g) (sym x))
+      (λ q a. rw (upd-other (s .place) p g q a) (sym (z q a))))
+      (λ c. refl)
+      (λ c. refl)
+      (λ c. refl)
+      (v .counted)
 
   abbrev load : ℕ → Load
   load p = loadOf (L .home p) (s .place p)
@@ -136,7 +212,8 @@ module _ (P : ℕ) (L : Plan) (G : Lawful (L .tree)) (small : (q j : ℕ) → L 
   load-now p g = ap (loadOf (L .home p)) (upd-same (s .place) p g)
 
   -- what a rank carries is in the counter
-  there-is : (p c : ℕ) → On P p → c < C → (l : Load) → load p ≡ l → (F * bit c + tries l c + Counters.reads l c + clears l c ≤ s .ar c) × (clears l c ≤ s .ar c)
+  there-is : (p c : ℕ) → On P p → c < C → (l : Load) → load p ≡ l
+      → (F * bit c + tries l c + Counters.reads l c + clears l c ≤ s .ar c) × (clears l c ≤ s .ar c)
   there-is p c on lt l e =
       let o = v .counted .each c lt in
       let a = total-part P (λ p. tries (load p) c) p on in
@@ -145,15 +222,90 @@ module _ (P : ℕ) (L : Plan) (G : Lawful (L .tree)) (small : (q j : ℕ) → L 
       rw (← e) (omega (arith, o .sum), omega (arith, o .sum))
 
   -- a shift from the place f to the place g
-  shift : (p c : ℕ) (f g : Place) (ar de : ℕ → ℕ) → s .place p ≡ f → Local (loadOf (L .home p) f) (loadOf (L .home p) g) c → ((d : ℕ) → d ≢ c → ar d ≡ s .ar d) → ((d : ℕ) → d ≢ c → de d ≡ s .de d) → Shift (tally L s bit) p c (load′ p g) ar de
-  shift p c f g ar de e lc x y = record { others = load-other p g; local = rw (load-now p g, e) lc; ar-other = x; de-other = y }
+  shift : (p c : ℕ) (f g : Place) (ar de : ℕ → ℕ) → s .place p ≡ f
+      → Local (loadOf (L .home p) f) (loadOf (L .home p) g) c → ((d : ℕ) → d ≢ c → ar d ≡ s .ar d)
+      → ((d : ℕ) → d ≢ c → de d ≡ s .de d) → Shift (tally L s bit) p c (load′ p g) ar de
+  shift p c f g ar de e lc x y =
+      record { others = load-other p g; local = rw (load-now p g, e) lc; ar-other = x; de-other = y }
 
   -- and the tally after it, where the gates are as they were
-  after : (p : ℕ) (g : Place) (ar de : ℕ → ℕ) → gateOf g (s .st (T .node p (at-level g))) ≡ gate T s p → Counted P C (L .TR) (record { load = load′ p g; gate = gate T s; ar = ar; de = de; bit = bit }) → Counted P C (L .TR) (tally L (record { place = upd (s .place) p g; nx = s .nx; st = s .st; tl = s .tl; ar = ar; de = de; at = s .at; lo = s .lo; hi = s .hi }) bit)
-  after p g ar de x w = tallied P C (L .TR) (record { load = load′ p g; gate = gate T s; ar = ar; de = de; bit = bit }) (tally L (record { place = upd (s .place) p g; nx = s .nx; st = s .st; tl = s .tl; ar = ar; de = de; at = s .at; lo = s .lo; hi = s .hi }) bit) (λ q. refl) (split p (λ q. gate T s q ≡ gateOf (upd (s .place) p g q) (s .st (T .node q (at-level (upd (s .place) p g q))))) (rw (upd-same (s .place) p g) (sym x)) (λ q a. rw (upd-other (s .place) p g q a))) (λ c. refl) (λ c. refl) (λ c. refl) w
+  after : (p : ℕ) (g : Place) (ar de : ℕ → ℕ) → gateOf g (s .st (T .node p (at-level g))) ≡ gate T s p
+      → Counted P C (L .TR) (record { load = load′ p g; gate = gate T s; ar = ar; de = de; bit = bit })
+      → Counted P C (L .TR)
+      (tally L
+      (record {
+        place = upd (s .place) p g;
+        nx = s .nx;
+        st = s .st;
+        tl = s .tl;
+        ar = ar;
+        de = de;
+        at = s .at;
+        lo = s .lo;
+        hi = s .hi;
+      })
+      bit)
+  after p g ar de x w =
+      tallied P C (L .TR) (record { load = load′ p g; gate = gate T s; ar = ar; de = de; bit = bit })
+      (tally L
+      (record {
+        place = upd (s .place) p g;
+        nx = s .nx;
+        st = s .st;
+        tl = s .tl;
+        ar = ar;
+        de = de;
+        at = s .at;
+        lo = s .lo;
+        hi = s .hi;
+      })
+      bit)
+      (λ q. refl)
+      (split p
+      (λ q.
+      gate T s q
+      ≡ gateOf (upd (s .place) p g q) (s .st (T .node q (at-level (upd (s .place) p g q)))))
+      (rw (upd-same (s .place) p g) (sym x))
+      (λ q a. rw (upd-other (s .place) p g q a)))
+      (λ c. refl)
+      (λ c. refl)
+      (λ c. refl)
+      w
 
-  drain : (p c : ℕ) (f g : Place) (ar de : ℕ → ℕ) → On P p → s .place p ≡ f → gateOf g (s .st (T .node p (at-level g))) ≡ gate T s p → Local (loadOf (L .home p) f) (loadOf (L .home p) g) c → ((d : ℕ) → d ≢ c → ar d ≡ s .ar d) → ((d : ℕ) → d ≢ c → de d ≡ s .de d) → ar c + s .de c + tries (loadOf (L .home p) f) c + Counters.reads (loadOf (L .home p) f) c + clears (loadOf (L .home p) f) c ≡ s .ar c + de c + tries (loadOf (L .home p) g) c + Counters.reads (loadOf (L .home p) g) c + clears (loadOf (L .home p) g) c → de c + Counters.reads (loadOf (L .home p) g) c + clears (loadOf (L .home p) g) c ≤ s .de c + Counters.reads (loadOf (L .home p) f) c + clears (loadOf (L .home p) f) c → de c + Counters.reads (loadOf (L .home p) g) c ≤ s .de c + Counters.reads (loadOf (L .home p) f) c → ((d : ℕ) → loadOf (L .home p) g ≢ inside d) → Counted P C (L .TR) (tally L (record { place = upd (s .place) p g; nx = s .nx; st = s .st; tl = s .tl; ar = ar; de = de; at = s .at; lo = s .lo; hi = s .hi }) bit)
-  drain p c f g ar de on e gt lc x y fl fa fr ou = after p g ar de gt (drained P C (L .TR) (tally L s bit) (v .counted) p c on (load′ p g) ar de (record { shift = shift p c f g ar de e lc x y; flow = rw (load-now p g, e) fl; fall = rw (load-now p g, e) fa; fall-reads = rw (load-now p g, e) fr; outside = λ d z. ou d (sym (load-now p g) ∙ z) }))
+  drain : (p c : ℕ) (f g : Place) (ar de : ℕ → ℕ) → On P p → s .place p ≡ f
+      → gateOf g (s .st (T .node p (at-level g))) ≡ gate T s p → Local (loadOf (L .home p) f) (loadOf (L .home p) g) c
+      → ((d : ℕ) → d ≢ c → ar d ≡ s .ar d) → ((d : ℕ) → d ≢ c → de d ≡ s .de d)
+      → ar c + s .de c + tries (loadOf (L .home p) f) c + Counters.reads (loadOf (L .home p) f) c
+      + clears (loadOf (L .home p) f) c
+      ≡ s .ar c + de c + tries (loadOf (L .home p) g) c + Counters.reads (loadOf (L .home p) g) c
+      + clears (loadOf (L .home p) g) c
+      → de c + Counters.reads (loadOf (L .home p) g) c + clears (loadOf (L .home p) g) c
+      ≤ s .de c + Counters.reads (loadOf (L .home p) f) c + clears (loadOf (L .home p) f) c
+      → de c + Counters.reads (loadOf (L .home p) g) c ≤ s .de c + Counters.reads (loadOf (L .home p) f) c
+      → ((d : ℕ) → loadOf (L .home p) g ≢ inside d)
+      → Counted P C (L .TR)
+      (tally L
+      (record {
+        place = upd (s .place) p g;
+        nx = s .nx;
+        st = s .st;
+        tl = s .tl;
+        ar = ar;
+        de = de;
+        at = s .at;
+        lo = s .lo;
+        hi = s .hi;
+      })
+      bit)
+  drain p c f g ar de on e gt lc x y fl fa fr ou =
+      after p g ar de gt
+      (drained P C (L .TR) (tally L s bit) (v .counted) p c on (load′ p g) ar de (record {
+        shift = shift p c f g ar de e lc x y;
+        flow = rw (load-now p g, e) fl;
+        fall = rw (load-now p g, e) fa;
+        fall-reads = rw (load-now p g, e) fr;
+        outside = λ d z. ou d (sym (load-now p g) ∙ z);
+      }))
 
   none-inside : (d : ℕ) → none ≢ inside d
   none-inside d e = let z : _≡_ {A = ℕ} 0 1 = cc in omega arith
@@ -164,7 +316,14 @@ module _ (P : ℕ) (L : Plan) (G : Lawful (L .tree)) (small : (q j : ℕ) → L 
       let k = pick-same c 1 in
       let h = there-is p c on (homes p) (trying c) (ap (loadOf c) e) in
       let u = upd-same (s .ar) c (pred (s .ar c)) in
-      drain p c R2 R3 (upd (s .ar) c (pred (s .ar c))) (s .de) on e (sym (gate-at T s p R2 e)) (λ d ne. (sym (pick-other c 1 d (λ z. ne (sym z))), refl, refl)) (λ d ne. upd-other (s .ar) c (pred (s .ar c)) d ne) (λ d ne. refl) (omega arith) (omega arith) (omega arith) none-inside
+      drain p c R2 R3 (upd (s .ar) c (pred (s .ar c))) (s .de) on e (sym (gate-at T s p R2 e))
+      (λ d ne. (sym (pick-other c 1 d (λ z. ne (sym z))), refl, refl))
+      (λ d ne. upd-other (s .ar) c (pred (s .ar c)) d ne)
+      (λ d ne. refl)
+      (omega arith)
+      (omega arith)
+      (omega arith)
+      none-inside
 
   count-R5 : (p : ℕ) → On P p → s .place p ≡ R5 → Counted P C (L .TR) (tally L (row L s p R5) bit)
   count-R5 p on e =
@@ -172,7 +331,14 @@ module _ (P : ℕ) (L : Plan) (G : Lawful (L .tree)) (small : (q j : ℕ) → L 
       let n = s .de c in
       let k = pick-same c n in
       let u = upd-same (s .de) c 0 in
-      drain p c R5 (R6 n) (s .ar) (upd (s .de) c 0) on e (sym (gate-at T s p R5 e)) (λ d ne. (refl, pick-other c n d (λ z. ne (sym z)), refl)) (λ d ne. refl) (λ d ne. upd-other (s .de) c 0 d ne) (omega arith) (omega arith) (omega arith) (λ d e. let z : _≡_ {A = ℕ} 0 1 = cc in omega arith)
+      drain p c R5 (R6 n) (s .ar) (upd (s .de) c 0) on e (sym (gate-at T s p R5 e))
+      (λ d ne. (refl, pick-other c n d (λ z. ne (sym z)), refl))
+      (λ d ne. refl)
+      (λ d ne. upd-other (s .de) c 0 d ne)
+      (omega arith)
+      (omega arith)
+      (omega arith)
+      (λ d e. let z : _≡_ {A = ℕ} 0 1 = cc in omega arith)
 
   count-R6 : (p n : ℕ) → On P p → s .place p ≡ R6 n → Counted P C (L .TR) (tally L (row L s p (R6 n)) bit)
   count-R6 p n on e =
@@ -180,19 +346,40 @@ module _ (P : ℕ) (L : Plan) (G : Lawful (L .tree)) (small : (q j : ℕ) → L 
       let k = pick-same c n in
       let h = there-is p c on (homes p) (carrying c n) (ap (loadOf c) e) in
       let u = upd-same (s .ar) c (s .ar c - n) in
-      drain p c (R6 n) R3 (upd (s .ar) c (s .ar c - n)) (s .de) on e (sym (gate-at T s p (R6 n) e)) (λ d ne. (refl, sym (pick-other c n d (λ z. ne (sym z))), refl)) (λ d ne. upd-other (s .ar) c (s .ar c - n) d ne) (λ d ne. refl) (omega arith) (omega arith) (omega arith) none-inside
+      drain p c (R6 n) R3 (upd (s .ar) c (s .ar c - n)) (s .de) on e (sym (gate-at T s p (R6 n) e))
+      (λ d ne. (refl, sym (pick-other c n d (λ z. ne (sym z))), refl))
+      (λ d ne. upd-other (s .ar) c (s .ar c - n) d ne)
+      (λ d ne. refl)
+      (omega arith)
+      (omega arith)
+      (omega arith)
+      none-inside
 
   count-R7 : (p : ℕ) → On P p → s .place p ≡ R7 → Counted P C (L .TR) (tally L (row L s p R7) bit)
   count-R7 p on e =
       let c = L .home p in
       let k = pick-same c 1 in
       let u = upd-same (s .de) c (suc (s .de c)) in
-      drain p c R7 idle (s .ar) (upd (s .de) c (suc (s .de c))) on e (sym (gate-at T s p R7 e)) (λ d ne. (refl, sym (pick-other c 1 d (λ z. ne (sym z))), refl)) (λ d ne. refl) (λ d ne. upd-other (s .de) c (suc (s .de c)) d ne) (omega arith) (omega arith) (omega arith) none-inside
+      drain p c R7 idle (s .ar) (upd (s .de) c (suc (s .de c))) on e (sym (gate-at T s p R7 e))
+      (λ d ne. (refl, sym (pick-other c 1 d (λ z. ne (sym z))), refl))
+      (λ d ne. refl)
+      (λ d ne. upd-other (s .de) c (suc (s .de c)) d ne)
+      (omega arith)
+      (omega arith)
+      (omega arith)
+      none-inside
 
   count-leave : (p : ℕ) → On P p → s .place p ≡ reads → Counted P C (L .TR) (tally L (go s p R7) bit)
   count-leave p on e =
       let c = L .home p in
-      drain p c reads R7 (s .ar) (s .de) on e (sym (gate-at T s p reads e)) (λ d ne. (refl, refl, refl)) (λ d ne. refl) (λ d ne. refl) (omega arith) (omega arith) (omega arith) (λ d e. let z : _≡_ {A = ℕ} 0 1 = cc in omega arith)
+      drain p c reads R7 (s .ar) (s .de) on e (sym (gate-at T s p reads e))
+      (λ d ne. (refl, refl, refl))
+      (λ d ne. refl)
+      (λ d ne. refl)
+      (omega arith)
+      (omega arith)
+      (omega arith)
+      (λ d e. let z : _≡_ {A = ℕ} 0 1 = cc in omega arith)
 
   count-R1 : (p : ℕ) → On P p → s .place p ≡ R1 → Counted P C (L .TR) (tally L (row L s p R1) bit)
   count-R1 p on e = by (ltb (s .ar c) (L .TR)) refl
@@ -209,46 +396,197 @@ module _ (P : ℕ) (L : Plan) (G : Lawful (L .tree)) (small : (q j : ℕ) → L 
       u : upd (s .ar) (L .home p) (suc (s .ar (L .home p))) (L .home p) ≡ suc (s .ar (L .home p))
       u = upd-same (s .ar) (L .home p) (suc (s .ar (L .home p)))
 
-      by : (b : Bool) → ltb (s .ar (L .home p)) (L .TR) ≡ b → Counted P C (L .TR) (tally L (record { place = upd (s .place) p (cond b reads R2); nx = s .nx; st = s .st; tl = s .tl; ar = upd (s .ar) (L .home p) (suc (s .ar (L .home p))); de = s .de; at = s .at; lo = s .lo; hi = s .hi }) bit)
-      by true z = after p reads (upd (s .ar) (L .home p) (suc (s .ar (L .home p)))) (s .de) (sym (gate-at T s p R1 e)) (entered P C (L .TR) cap (tally L s bit) (v .counted) p (L .home p) (homes p) on (load′ p reads) (upd (s .ar) (L .home p) (suc (s .ar (L .home p)))) (record { shift = shift p (L .home p) R1 reads (upd (s .ar) (L .home p) (suc (s .ar (L .home p)))) (s .de) e (λ d ne. (refl, pick-other (L .home p) 1 d (λ z. ne (sym z)), refl)) (λ d ne. upd-other (s .ar) (L .home p) (suc (s .ar (L .home p))) d ne) (λ d ne. refl); before = ap (loadOf (L .home p)) e; after = load-now p reads; word = u; room = ltb-true (s .ar (L .home p)) (L .TR) z }))
-      by false z = drain p (L .home p) R1 R2 (upd (s .ar) (L .home p) (suc (s .ar (L .home p)))) (s .de) on e (sym (gate-at T s p R1 e)) (λ d ne. (pick-other (L .home p) 1 d (λ z. ne (sym z)), refl, refl)) (λ d ne. upd-other (s .ar) (L .home p) (suc (s .ar (L .home p))) d ne) (λ d ne. refl) (omega (arith, k, u)) (omega arith) (omega arith) (λ d e. let z : _≡_ {A = ℕ} 0 1 = cc in omega arith)
+      by : (b : Bool) → ltb (s .ar (L .home p)) (L .TR) ≡ b
+          → Counted P C (L .TR)
+          (tally L
+          (record {
+            place = upd (s .place) p (cond b reads R2);
+            nx = s .nx;
+            st = s .st;
+            tl = s .tl;
+            ar = upd (s .ar) (L .home p) (suc (s .ar (L .home p)));
+            de = s .de;
+            at = s .at;
+            lo = s .lo;
+            hi = s .hi;
+          })
+          bit)
+      by true z =
+          after p reads (upd (s .ar) (L .home p) (suc (s .ar (L .home p)))) (s .de) (sym (gate-at T s p R1 e))
+          (entered P C (L .TR) cap (tally L s bit) (v .counted) p (L .home p) (homes p) on (load′ p reads)
+          (upd (s .ar) (L .home p) (suc (s .ar (L .home p)))) (record {
+            shift =
+                shift p (L .home p) R1 reads (upd (s .ar) (L .home p) (suc (s .ar (L .home p)))) (s .de) e
+                (λ d ne. (refl, pick-other (L .home p) 1 d (λ z. ne (sym z)), refl))
+                (λ d ne. upd-other (s .ar) (L .home p) (suc (s .ar (L .home p))) d ne)
+                (λ d ne. refl);
+            before = ap (loadOf (L .home p)) e;
+            after = load-now p reads;
+            word = u;
+            room = ltb-true (s .ar (L .home p)) (L .TR) z;
+          }))
+      by false z =
+          drain p (L .home p) R1 R2 (upd (s .ar) (L .home p) (suc (s .ar (L .home p)))) (s .de) on e
+          (sym (gate-at T s p R1 e))
+          (λ d ne. (pick-other (L .home p) 1 d (λ z. ne (sym z)), refl, refl))
+          (λ d ne. upd-other (s .ar) (L .home p) (suc (s .ar (L .home p))) d ne)
+          (λ d ne. refl)
+          (omega (arith, k, u))
+          (omega arith)
+          (omega arith)
+          (λ d e. let z : _≡_ {A = ℕ} 0 1 = cc in omega arith)
 
   count-U6 : (p n : ℕ) → On P p → s .place p ≡ U6 n → Counted P C (L .TR) (tally L (row L s p (U6 n)) bit)
   count-U6 p n on e =
       let m = s .de n in
       let k = pick-same n m in
       let u = upd-same (s .de) n 0 in
-      drain p n (U6 n) (U7 n m) (s .ar) (upd (s .de) n 0) on e (sym (gate-at T s p (U6 n) e)) (λ d ne. (refl, refl, pick-other n m d (λ z. ne (sym z)))) (λ d ne. refl) (λ d ne. upd-other (s .de) n 0 d ne) (omega arith) (omega arith) (omega arith) (λ d e. let z : _≡_ {A = ℕ} 0 1 = cc in omega arith)
+      drain p n (U6 n) (U7 n m) (s .ar) (upd (s .de) n 0) on e (sym (gate-at T s p (U6 n) e))
+      (λ d ne. (refl, refl, pick-other n m d (λ z. ne (sym z))))
+      (λ d ne. refl)
+      (λ d ne. upd-other (s .de) n 0 d ne)
+      (omega arith)
+      (omega arith)
+      (omega arith)
+      (λ d e. let z : _≡_ {A = ℕ} 0 1 = cc in omega arith)
 
   -- a writer's row at the counter k, from f to g
-  flip : (p k : ℕ) (f g : Place) (ar bit′ : ℕ → ℕ) → On P p → On (T .top p) 1 → s .place p ≡ f → level (T .top p) (phase T s p) ≤ 1 → Local (loadOf (L .home p) f) (loadOf (L .home p) g) k → ((d : ℕ) → d ≢ k → ar d ≡ s .ar d) → ((d : ℕ) → d ≢ k → bit′ d ≡ bit d) → bit′ k ≤ 1 → ar k + F * bit k + s .de k + tries (loadOf (L .home p) f) k + Counters.reads (loadOf (L .home p) f) k + clears (loadOf (L .home p) f) k ≡ s .ar k + F * bit′ k + s .de k + tries (loadOf (L .home p) g) k + Counters.reads (loadOf (L .home p) g) k + clears (loadOf (L .home p) g) k → Counters.reads (loadOf (L .home p) g) k + clears (loadOf (L .home p) g) k ≤ Counters.reads (loadOf (L .home p) f) k + clears (loadOf (L .home p) f) k → (h : Gate) → gateOf g (s .st (T .node p (at-level g))) ≡ h → ((c : ℕ) → c < C → Marks h c → bit′ c ≡ 1) → ((c : ℕ) → c < C → bit′ c ≡ 1 → Marks h c) → ((c : ℕ) → c < C → Keeps h c → (q : ℕ) → On P q → load′ p g q ≢ inside c) → ((j n : ℕ) → h ≡ reading j n → F + s .de j + total P (λ q. Counters.reads (load′ p g q) j) ≤ n) → Counted P C (L .TR) (tally L (record { place = upd (s .place) p g; nx = s .nx; st = s .st; tl = s .tl; ar = ar; de = s .de; at = s .at; lo = s .lo; hi = s .hi }) bit′)
+  flip : (p k : ℕ) (f g : Place) (ar bit′ : ℕ → ℕ) → On P p → On (T .top p) 1 → s .place p ≡ f
+      → level (T .top p) (phase T s p) ≤ 1 → Local (loadOf (L .home p) f) (loadOf (L .home p) g) k
+      → ((d : ℕ) → d ≢ k → ar d ≡ s .ar d) → ((d : ℕ) → d ≢ k → bit′ d ≡ bit d) → bit′ k ≤ 1
+      → ar k + F * bit k + s .de k + tries (loadOf (L .home p) f) k + Counters.reads (loadOf (L .home p) f) k
+      + clears (loadOf (L .home p) f) k
+      ≡ s .ar k + F * bit′ k + s .de k + tries (loadOf (L .home p) g) k + Counters.reads (loadOf (L .home p) g) k
+      + clears (loadOf (L .home p) g) k
+      → Counters.reads (loadOf (L .home p) g) k + clears (loadOf (L .home p) g) k
+      ≤ Counters.reads (loadOf (L .home p) f) k + clears (loadOf (L .home p) f) k → (h : Gate)
+      → gateOf g (s .st (T .node p (at-level g))) ≡ h → ((c : ℕ) → c < C → Marks h c → bit′ c ≡ 1)
+      → ((c : ℕ) → c < C → bit′ c ≡ 1 → Marks h c)
+      → ((c : ℕ) → c < C → Keeps h c → (q : ℕ) → On P q → load′ p g q ≢ inside c)
+      → ((j n : ℕ) → h ≡ reading j n → F + s .de j + total P (λ q. Counters.reads (load′ p g q) j) ≤ n)
+      → Counted P C (L .TR)
+      (tally L
+      (record {
+        place = upd (s .place) p g;
+        nx = s .nx;
+        st = s .st;
+        tl = s .tl;
+        ar = ar;
+        de = s .de;
+        at = s .at;
+        lo = s .lo;
+        hi = s .hi;
+      })
+      bit′)
   flip p k f g ar bit′ on o e lv lc x y bs fl fa h gh mk sd kp ss =
-      let s₁ : Lock = record { place = s .place; nx = s .nx; st = s .st; tl = s .tl; ar = ar; de = s .de; at = s .at; lo = s .lo; hi = s .hi } in
+      let s₁ : Lock =
+      record {
+        place = s .place;
+        nx = s .nx;
+        st = s .st;
+        tl = s .tl;
+        ar = ar;
+        de = s .de;
+        at = s .at;
+        lo = s .lo;
+        hi = s .hi;
+      } in
       let now : gate T (go s₁ p g) p ≡ h = gate-now T s₁ p g ∙ gh in
-      flipped P C (L .TR) (tally L s bit) (v .counted) p k on (tally L (go s₁ p g) bit′) (record { shift = shift p k f g ar (s .de) e lc x (λ d ne. refl); bit-other = y; bit-small = bs; flow = rw (load-now p g, e) fl; fall = rw (load-now p g, e) (omega arith); gates = gate-other T s₁ p g; alone = alone p o lv; marks = λ c l w. mk c l (subst (λ z. Marks z c) now w); stands = λ c l w. subst (λ z. Marks z c) (sym now) (sd c l w); keeps = λ c l w. kp c l (subst (λ z. Keeps z c) now w); sees = λ j n w. ss j n (sym now ∙ w) })
+      flipped P C (L .TR) (tally L s bit) (v .counted) p k on (tally L (go s₁ p g) bit′) (record {
+        shift = shift p k f g ar (s .de) e lc x (λ d ne. refl);
+        bit-other = y;
+        bit-small = bs;
+        flow = rw (load-now p g, e) fl;
+        fall = rw (load-now p g, e) (omega arith);
+        gates = gate-other T s₁ p g;
+        alone = alone p o lv;
+        marks = λ c l w. mk c l (subst (λ z. Marks z c) now w);
+        stands = λ c l w. subst (λ z. Marks z c) (sym now) (sd c l w);
+        keeps = λ c l w. kp c l (subst (λ z. Keeps z c) now w);
+        sees = λ j n w. ss j n (sym now ∙ w);
+      })
 
   -- the one writer marks each bit that stands
-  own-marks : (p : ℕ) → On (T .top p) 1 → level (T .top p) (phase T s p) ≤ 1 → (c : ℕ) → c < C → bit c ≡ 1 → Marks (gate T s p) c
-  own-marks p o lv c l z = let w = v .counted .each c l .stands z in split p (λ q. Marks (gate T s q) c → Marks (gate T s p) c) (λ x. x) (λ q a x. absurd (subst (λ g. Marks g c) (alone p o lv q a) x)) (w .0) (w .1)
+  own-marks : (p : ℕ) → On (T .top p) 1 → level (T .top p) (phase T s p) ≤ 1 → (c : ℕ) → c < C → bit c ≡ 1
+      → Marks (gate T s p) c
+  own-marks p o lv c l z =
+      let w = v .counted .each c l .stands z in
+      split p
+      (λ q. Marks (gate T s q) c → Marks (gate T s p) c)
+      (λ x. x)
+      (λ q a x. absurd (subst (λ g. Marks g c) (alone p o lv q a) x))
+      (w .0)
+      (w .1)
 
-  not-inside : (p : ℕ) (g : Place) (c : ℕ) → loadOf (L .home p) g ≡ none → ((q : ℕ) → On P q → load q ≢ inside c) → (q : ℕ) → On P q → load′ p g q ≢ inside c
-  not-inside p g c z h = split p (λ q. On P q → load′ p g q ≢ inside c) (λ _ w. none-inside c (sym z ∙ (sym (load-now p g) ∙ w))) (λ q a on w. h q on (sym (load-other p g q a) ∙ w))
+  not-inside : (p : ℕ) (g : Place) (c : ℕ) → loadOf (L .home p) g ≡ none → ((q : ℕ) → On P q → load q ≢ inside c)
+      → (q : ℕ) → On P q → load′ p g q ≢ inside c
+  not-inside p g c z h =
+      split p
+      (λ q. On P q → load′ p g q ≢ inside c)
+      (λ _ w. none-inside c (sym z ∙ (sym (load-now p g) ∙ w)))
+      (λ q a on w. h q on (sym (load-other p g q a) ∙ w))
 
   -- rows W8, W9, U5, and W6 at level 1: no word changes
-  turn : (p : ℕ) (f g : Place) → On P p → On (T .top p) 1 → s .place p ≡ f → level (T .top p) (phase T s p) ≤ 1 → loadOf (L .home p) f ≡ none → loadOf (L .home p) g ≡ none → (h : Gate) → gateOf g (s .st (T .node p (at-level g))) ≡ h → ((c : ℕ) → c < C → Marks h c → Marks (gate T s p) c) → ((c : ℕ) → c < C → Marks (gate T s p) c → Marks h c) → ((c : ℕ) → c < C → Keeps h c → (q : ℕ) → On P q → load q ≢ inside c) → ((j n : ℕ) → h ≡ reading j n → F + s .de j + total P (λ q. Counters.reads (load q) j) ≤ n) → Counted P C (L .TR) (tally L (go s p g) bit)
+  turn : (p : ℕ) (f g : Place) → On P p → On (T .top p) 1 → s .place p ≡ f → level (T .top p) (phase T s p) ≤ 1
+      → loadOf (L .home p) f ≡ none → loadOf (L .home p) g ≡ none → (h : Gate)
+      → gateOf g (s .st (T .node p (at-level g))) ≡ h → ((c : ℕ) → c < C → Marks h c → Marks (gate T s p) c)
+      → ((c : ℕ) → c < C → Marks (gate T s p) c → Marks h c)
+      → ((c : ℕ) → c < C → Keeps h c → (q : ℕ) → On P q → load q ≢ inside c)
+      → ((j n : ℕ) → h ≡ reading j n → F + s .de j + total P (λ q. Counters.reads (load q) j) ≤ n)
+      → Counted P C (L .TR) (tally L (go s p g) bit)
   turn p f g on o e lv lf lg h gh mk sd kp ss =
-      let same : (q : ℕ) → load′ p g q ≡ load q = split p (λ q. load′ p g q ≡ load q) (load-now p g ∙ (lg ∙ sym (ap (loadOf (L .home p)) e ∙ lf))) (load-other p g) in
-      ⊎-elim (λ (z : 0 < C). flip p 0 f g (s .ar) bit on o e lv (λ d ne. rw (lf, lg) (refl, refl, refl)) (λ d ne. refl) (λ d ne. refl) (v .counted .each 0 z .bits) (rw (lf, lg)) (rw (lf, lg) (omega arith)) h gh (λ c l w. v .counted .marked p c l (mk c l w)) (λ c l w. sd c l (own-marks p o lv c l w)) (λ c l w. not-inside p g c lg (kp c l w)) (λ j n w. let t : total P (λ q. Counters.reads (load′ p g q) j) ≡ total P (λ q. Counters.reads (load q) j) = total-same P (λ q. Counters.reads (load q) j) (λ q. Counters.reads (load′ p g q) j) (λ q _ _. ap (λ l. Counters.reads l j) (same q)) in omega (arith, ss j n w))) (λ (z : C ≤ 0). absurd (omega (arith, homes p))) (cases-lt 0 C)
+      let same : (q : ℕ) → load′ p g q ≡ load q =
+      split p
+      (λ q. load′ p g q ≡ load q)
+      (load-now p g ∙ (lg ∙ sym (ap (loadOf (L .home p)) e ∙ lf)))
+      (load-other p g) in
+      ⊎-elim
+      (λ (z : 0 < C).
+      flip p 0 f g (s .ar) bit on o e lv
+      (λ d ne. rw (lf, lg) (refl, refl, refl))
+      (λ d ne. refl)
+      (λ d ne. refl)
+      (v .counted .each 0 z .bits)
+      (rw (lf, lg))
+      (rw (lf, lg) (omega arith))
+      h
+      gh
+      (λ c l w. v .counted .marked p c l (mk c l w))
+      (λ c l w. sd c l (own-marks p o lv c l w))
+      (λ c l w. not-inside p g c lg (kp c l w))
+      (λ j n w.
+      let t : total P (λ q. Counters.reads (load′ p g q) j)
+      ≡ total P (λ q. Counters.reads (load q) j) =
+      total-same P
+      (λ q. Counters.reads (load q) j)
+      (λ q. Counters.reads (load′ p g q) j)
+      (λ q _ _. ap (λ l. Counters.reads l j) (same q)) in
+      omega (arith, ss j n w)))
+      (λ (z : C ≤ 0). absurd (omega (arith, homes p)))
+      (cases-lt 0 C)
 
   level-1 : (p : ℕ) (f : Place) → s .place p ≡ f → ((w : ℕ) → phaseOf f w ≡ hold 1) → level (T .top p) (phase T s p) ≤ 1
   level-1 p f e h = rw (phase-at T s p f e, h (s .st (T .node p (at-level f)))) (omega arith)
 
-  count-W8 : (p k : ℕ) → On P p → On (T .top p) 1 → k < C → s .place p ≡ W8 k → Counted P C (L .TR) (tally L (row L s p (W8 k)) bit)
+  count-W8 : (p k : ℕ) → On P p → On (T .top p) 1 → k < C → s .place p ≡ W8 k
+      → Counted P C (L .TR) (tally L (row L s p (W8 k)) bit)
   count-W8 p k on o l e =
       let g = gate-at T s p (W8 k) e in
-      turn p (W8 k) (W9 k (s .ar k)) on o e (level-1 p (W8 k) e (λ w. refl)) refl refl (reading k (s .ar k)) refl (λ c l w. rw g tt) (λ c l w. tt) (λ c m w. v .counted .kept p c m (rw g w)) (λ j n w. let a : k ≡ j = cc in let b : s .ar k ≡ n = cc in let z : bit k ≡ 1 = v .counted .marked p k l (rw g tt) in subst (λ j. F + s .de j + total P (λ q. Counters.reads (load q) j) ≤ n) a (omega (arith, v .counted .each k l .sum)))
+      turn p (W8 k) (W9 k (s .ar k)) on o e (level-1 p (W8 k) e (λ w. refl)) refl refl (reading k (s .ar k)) refl
+      (λ c l w. rw g tt)
+      (λ c l w. tt)
+      (λ c m w. v .counted .kept p c m (rw g w))
+      (λ j n w.
+      let a : k ≡ j = cc in
+      let b : s .ar k ≡ n = cc in
+      let z : bit k ≡ 1 = v .counted .marked p k l (rw g tt) in
+      subst
+      (λ j. F + s .de j + total P (λ q. Counters.reads (load q) j) ≤ n)
+      a
+      (omega (arith, v .counted .each k l .sum)))
 
-  count-W9 : (p k n : ℕ) → On P p → On (T .top p) 1 → k < C → s .place p ≡ W9 k n → Counted P C (L .TR) (tally L (row L s p (W9 k n)) bit)
+  count-W9 : (p k n : ℕ) → On P p → On (T .top p) 1 → k < C → s .place p ≡ W9 k n
+      → Counted P C (L .TR) (tally L (row L s p (W9 k n)) bit)
   count-W9 p k n on o l e = by (eqb n (2 ^ 62 + s .de k)) (ltb (suc k) C) refl refl
     where
       g : gate T s p ≡ reading k n
@@ -258,14 +596,39 @@ module _ (P : ℕ) (L : Plan) (G : Lawful (L .tree)) (small : (q j : ℕ) → L 
       old c m w = v .counted .kept p c m (rw g w)
 
       new : n ≡ 2 ^ 62 + s .de k → (c : ℕ) → c < C → c ≤ k → (q : ℕ) → On P q → load q ≢ inside c
-      new z c m w = ⊎-elim (λ (y : c ≡ k). subst (λ c. (q : ℕ) → On P q → load q ≢ inside c) (sym y) (nobody-in P C (L .TR) (tally L s bit) (v .counted) p k n g z)) (λ (y : c ≡ k → ⊥). old c m (omega arith)) (cases-eq c k)
+      new z c m w =
+          ⊎-elim
+          (λ (y : c ≡ k).
+          subst
+          (λ c. (q : ℕ) → On P q → load q ≢ inside c)
+          (sym y)
+          (nobody-in P C (L .TR) (tally L s bit) (v .counted) p k n g z))
+          (λ (y : c ≡ k → ⊥). old c m (omega arith))
+          (cases-eq c k)
 
-      by : (a b : Bool) → eqb n (2 ^ 62 + s .de k) ≡ a → ltb (suc k) C ≡ b → Counted P C (L .TR) (tally L (go s p (cond a (cond b (W8 (suc k)) writes) (W8 k))) bit)
-      by true true x y = turn p (W9 k n) (W8 (suc k)) on o e (level-1 p (W9 k n) e (λ w. refl)) refl refl (checking (suc k)) refl (λ c m w. rw g tt) (λ c m w. tt) (λ c m w. new (eqb-true n (2 ^ 62 + s .de k) x) c m (omega arith)) (λ j i w. absurd (let z : _≡_ {A = ℕ} 0 1 = cc in omega arith))
-      by true false x y = turn p (W9 k n) writes on o e (level-1 p (W9 k n) e (λ w. refl)) refl refl wide refl (λ c m w. rw g tt) (λ c m w. tt) (λ c m w. new (eqb-true n (2 ^ 62 + s .de k) x) c m (omega (arith, ltb-false (suc k) C y))) (λ j i w. absurd (let z : _≡_ {A = ℕ} 0 1 = cc in omega arith))
-      by false b x y = turn p (W9 k n) (W8 k) on o e (level-1 p (W9 k n) e (λ w. refl)) refl refl (checking k) refl (λ c m w. rw g tt) (λ c m w. tt) (λ c m w. old c m w) (λ j i w. absurd (let z : _≡_ {A = ℕ} 0 1 = cc in omega arith))
+      by : (a b : Bool) → eqb n (2 ^ 62 + s .de k) ≡ a → ltb (suc k) C ≡ b
+          → Counted P C (L .TR) (tally L (go s p (cond a (cond b (W8 (suc k)) writes) (W8 k))) bit)
+      by true true x y =
+          turn p (W9 k n) (W8 (suc k)) on o e (level-1 p (W9 k n) e (λ w. refl)) refl refl (checking (suc k)) refl
+          (λ c m w. rw g tt)
+          (λ c m w. tt)
+          (λ c m w. new (eqb-true n (2 ^ 62 + s .de k) x) c m (omega arith))
+          (λ j i w. absurd (let z : _≡_ {A = ℕ} 0 1 = cc in omega arith))
+      by true false x y =
+          turn p (W9 k n) writes on o e (level-1 p (W9 k n) e (λ w. refl)) refl refl wide refl
+          (λ c m w. rw g tt)
+          (λ c m w. tt)
+          (λ c m w. new (eqb-true n (2 ^ 62 + s .de k) x) c m (omega (arith, ltb-false (suc k) C y)))
+          (λ j i w. absurd (let z : _≡_ {A = ℕ} 0 1 = cc in omega arith))
+      by false b x y =
+          turn p (W9 k n) (W8 k) on o e (level-1 p (W9 k n) e (λ w. refl)) refl refl (checking k) refl
+          (λ c m w. rw g tt)
+          (λ c m w. tt)
+          (λ c m w. old c m w)
+          (λ j i w. absurd (let z : _≡_ {A = ℕ} 0 1 = cc in omega arith))
 
-  count-W7 : (p k : ℕ) → On P p → On (T .top p) 1 → k < C → s .place p ≡ W7 k → Counted P C (L .TR) (tally L (row L s p (W7 k)) (upd bit k 1))
+  count-W7 : (p k : ℕ) → On P p → On (T .top p) 1 → k < C → s .place p ≡ W7 k
+      → Counted P C (L .TR) (tally L (row L s p (W7 k)) (upd bit k 1))
   count-W7 p k on o l e = by (ltb (suc k) C) refl
     where
       g : gate T s p ≡ raising k
@@ -275,25 +638,94 @@ module _ (P : ℕ) (L : Plan) (G : Lawful (L .tree)) (small : (q j : ℕ) → L 
       lv = level-1 p (W7 k) e (λ w. refl)
 
       down : bit k ≡ 0
-      down = ⊎-elim (λ (z : bit k ≡ 1). let w : k < k = subst (λ h. Marks h k) g (own-marks p o lv k l z) in absurd (omega arith)) (λ (z : bit k ≡ 1 → ⊥). omega (arith, v .counted .each k l .bits)) (cases-eq (bit k) 1)
+      down =
+          ⊎-elim
+          (λ (z : bit k ≡ 1).
+          let w : k < k = subst (λ h. Marks h k) g (own-marks p o lv k l z) in absurd (omega arith))
+          (λ (z : bit k ≡ 1 → ⊥). omega (arith, v .counted .each k l .bits))
+          (cases-eq (bit k) 1)
 
       up : upd bit k 1 k ≡ 1
       up = upd-same bit k 1
 
       raised : (c : ℕ) → c < C → c < suc k → upd bit k 1 c ≡ 1
-      raised c m w = ⊎-elim (λ (z : c ≡ k). rw (z, up)) (λ (z : c ≡ k → ⊥). upd-other bit k 1 c z ∙ v .counted .marked p c m (rw g (omega arith))) (cases-eq c k)
+      raised c m w =
+          ⊎-elim
+          (λ (z : c ≡ k). rw (z, up))
+          (λ (z : c ≡ k → ⊥). upd-other bit k 1 c z ∙ v .counted .marked p c m (rw g (omega arith)))
+          (cases-eq c k)
 
       back : (c : ℕ) → c < C → upd bit k 1 c ≡ 1 → c < suc k
-      back c m w = ⊎-elim (λ (z : c ≡ k). omega arith) (λ (z : c ≡ k → ⊥). let x : c < k = subst (λ h. Marks h c) g (own-marks p o lv c m (sym (upd-other bit k 1 c z) ∙ w)) in omega arith) (cases-eq c k)
+      back c m w =
+          ⊎-elim
+          (λ (z : c ≡ k). omega arith)
+          (λ (z : c ≡ k → ⊥).
+          let x : c < k = subst (λ h. Marks h c) g (own-marks p o lv c m (sym (upd-other bit k 1 c z) ∙ w)) in
+          omega arith)
+          (cases-eq c k)
 
-      at : (q : Place) (h : Gate) → loadOf (L .home p) q ≡ none → gateOf q (s .st (T .node p (at-level q))) ≡ h → ((c : ℕ) → c < C → Marks h c → c < suc k) → ((c : ℕ) → c < C → c < suc k → Marks h c) → ((c : ℕ) → Keeps h c → ⊥) → ((j n : ℕ) → h ≡ reading j n → ⊥) → Counted P C (L .TR) (tally L (record { place = upd (s .place) p q; nx = s .nx; st = s .st; tl = s .tl; ar = upd (s .ar) k (s .ar k + 2 ^ 62); de = s .de; at = s .at; lo = s .lo; hi = s .hi }) (upd bit k 1))
-      at q h lq gq a b c d = flip p k (W7 k) q (upd (s .ar) k (s .ar k + 2 ^ 62)) (upd bit k 1) on o e lv (λ d ne. rw lq (refl, refl, refl)) (λ d ne. upd-other (s .ar) k (s .ar k + 2 ^ 62) d ne) (λ d ne. upd-other bit k 1 d ne) (omega (arith, up)) (rw lq (omega (arith, up, down, upd-same (s .ar) k (s .ar k + 2 ^ 62)))) (rw lq (omega arith)) h gq (λ x m w. raised x m (a x m w)) (λ x m w. b x m (back x m w)) (λ x m w. absurd (c x w)) (λ j n w. absurd (d j n w))
+      at : (q : Place) (h : Gate) → loadOf (L .home p) q ≡ none → gateOf q (s .st (T .node p (at-level q))) ≡ h
+          → ((c : ℕ) → c < C → Marks h c → c < suc k) → ((c : ℕ) → c < C → c < suc k → Marks h c)
+          → ((c : ℕ) → Keeps h c → ⊥) → ((j n : ℕ) → h ≡ reading j n → ⊥)
+          → Counted P C (L .TR)
+          (tally L
+          (record {
+            place = upd (s .place) p q;
+            nx = s .nx;
+            st = s .st;
+            tl = s .tl;
+            ar = upd (s .ar) k (s .ar k + 2 ^ 62);
+            de = s .de;
+            at = s .at;
+            lo = s .lo;
+            hi = s .hi;
+          })
+          (upd bit k 1))
+      at q h lq gq a b c d =
+          flip p k (W7 k) q (upd (s .ar) k (s .ar k + 2 ^ 62)) (upd bit k 1) on o e lv
+          (λ d ne. rw lq (refl, refl, refl))
+          (λ d ne. upd-other (s .ar) k (s .ar k + 2 ^ 62) d ne)
+          (λ d ne. upd-other bit k 1 d ne)
+          (omega (arith, up))
+          (rw lq (omega (arith, up, down, upd-same (s .ar) k (s .ar k + 2 ^ 62))))
+          (rw lq (omega arith))
+          h
+          gq
+          (λ x m w. raised x m (a x m w))
+          (λ x m w. b x m (back x m w))
+          (λ x m w. absurd (c x w))
+          (λ j n w. absurd (d j n w))
 
-      by : (b : Bool) → ltb (suc k) C ≡ b → Counted P C (L .TR) (tally L (record { place = upd (s .place) p (cond b (W7 (suc k)) (W8 0)); nx = s .nx; st = s .st; tl = s .tl; ar = upd (s .ar) k (s .ar k + 2 ^ 62); de = s .de; at = s .at; lo = s .lo; hi = s .hi }) (upd bit k 1))
-      by true z = at (W7 (suc k)) (raising (suc k)) refl refl (λ c m w. w) (λ c m w. w) (λ c w. w) (λ j n e. let z : _≡_ {A = ℕ} 0 1 = cc in omega arith)
-      by false z = at (W8 0) (checking 0) refl refl (λ c m w. omega (arith, ltb-false (suc k) C z)) (λ c m w. tt) (λ c w. omega arith) (λ j n e. let z : _≡_ {A = ℕ} 0 1 = cc in omega arith)
+      by : (b : Bool) → ltb (suc k) C ≡ b
+          → Counted P C (L .TR)
+          (tally L
+          (record {
+            place = upd (s .place) p (cond b (W7 (suc k)) (W8 0));
+            nx = s .nx;
+            st = s .st;
+            tl = s .tl;
+            ar = upd (s .ar) k (s .ar k + 2 ^ 62);
+            de = s .de;
+            at = s .at;
+            lo = s .lo;
+            hi = s .hi;
+          })
+          (upd bit k 1))
+      by true z =
+          at (W7 (suc k)) (raising (suc k)) refl refl
+          (λ c m w. w)
+          (λ c m w. w)
+          (λ c w. w)
+          (λ j n e. let z : _≡_ {A = ℕ} 0 1 = cc in omega arith)
+      by false z =
+          at (W8 0) (checking 0) refl refl
+          (λ c m w. omega (arith, ltb-false (suc k) C z))
+          (λ c m w. tt)
+          (λ c w. omega arith)
+          (λ j n e. let z : _≡_ {A = ℕ} 0 1 = cc in omega arith)
 
-  count-U7 : (p k n : ℕ) → On P p → On (T .top p) 1 → k < C → s .place p ≡ U7 k n → Counted P C (L .TR) (tally L (row L s p (U7 k n)) (upd bit k 0))
+  count-U7 : (p k n : ℕ) → On P p → On (T .top p) 1 → k < C → s .place p ≡ U7 k n
+      → Counted P C (L .TR) (tally L (row L s p (U7 k n)) (upd bit k 0))
   count-U7 p k n on o l e = by (ltb (suc k) C) refl
     where
       g : gate T s p ≡ lowering k
@@ -315,24 +747,91 @@ module _ (P : ℕ) (L : Plan) (G : Lawful (L .tree)) (small : (q j : ℕ) → L 
       kept c m w = upd-other bit k 0 c (omega arith) ∙ v .counted .marked p c m (rw g (omega arith))
 
       back : (c : ℕ) → c < C → upd bit k 0 c ≡ 1 → suc k ≤ c
-      back c m w = ⊎-elim (λ (z : c ≡ k). let x : upd bit k 0 c ≡ 0 = rw (z, low) in absurd (omega arith)) (λ (z : c ≡ k → ⊥). let x : k ≤ c = subst (λ h. Marks h c) g (own-marks p o lv c m (sym (upd-other bit k 0 c z) ∙ w)) in omega arith) (cases-eq c k)
+      back c m w =
+          ⊎-elim
+          (λ (z : c ≡ k). let x : upd bit k 0 c ≡ 0 = rw (z, low) in absurd (omega arith))
+          (λ (z : c ≡ k → ⊥).
+          let x : k ≤ c = subst (λ h. Marks h c) g (own-marks p o lv c m (sym (upd-other bit k 0 c z) ∙ w)) in
+          omega arith)
+          (cases-eq c k)
 
-      at : (q : Place) (h : Gate) → loadOf (L .home p) q ≡ none → gateOf q (s .st (T .node p (at-level q))) ≡ h → ((c : ℕ) → c < C → Marks h c → suc k ≤ c) → ((c : ℕ) → c < C → suc k ≤ c → Marks h c) → ((c : ℕ) → Keeps h c → ⊥) → ((j n : ℕ) → h ≡ reading j n → ⊥) → Counted P C (L .TR) (tally L (record { place = upd (s .place) p q; nx = s .nx; st = s .st; tl = s .tl; ar = upd (s .ar) k (s .ar k - (2 ^ 62 + n)); de = s .de; at = s .at; lo = s .lo; hi = s .hi }) (upd bit k 0))
-      at q h lq gq a b c d = flip p k (U7 k n) q (upd (s .ar) k (s .ar k - (2 ^ 62 + n))) (upd bit k 0) on o e lv (λ d ne. rw lq (refl, refl, sym (pick-other k n d (λ z. ne (sym z))))) (λ d ne. upd-other (s .ar) k (s .ar k - (2 ^ 62 + n)) d ne) (λ d ne. upd-other bit k 0 d ne) (omega (arith, low)) (rw lq (omega (arith, low, stood, has, pick-same k n, upd-same (s .ar) k (s .ar k - (2 ^ 62 + n))))) (rw lq (omega arith)) h gq (λ x m w. kept x m (a x m w)) (λ x m w. b x m (back x m w)) (λ x m w. absurd (c x w)) (λ j n w. absurd (d j n w))
+      at : (q : Place) (h : Gate) → loadOf (L .home p) q ≡ none → gateOf q (s .st (T .node p (at-level q))) ≡ h
+          → ((c : ℕ) → c < C → Marks h c → suc k ≤ c) → ((c : ℕ) → c < C → suc k ≤ c → Marks h c)
+          → ((c : ℕ) → Keeps h c → ⊥) → ((j n : ℕ) → h ≡ reading j n → ⊥)
+          → Counted P C (L .TR)
+          (tally L
+          (record {
+            place = upd (s .place) p q;
+            nx = s .nx;
+            st = s .st;
+            tl = s .tl;
+            ar = upd (s .ar) k (s .ar k - (2 ^ 62 + n));
+            de = s .de;
+            at = s .at;
+            lo = s .lo;
+            hi = s .hi;
+          })
+          (upd bit k 0))
+      at q h lq gq a b c d =
+          flip p k (U7 k n) q (upd (s .ar) k (s .ar k - (2 ^ 62 + n))) (upd bit k 0) on o e lv
+          (λ d ne. rw lq (refl, refl, sym (pick-other k n d (λ z. ne (sym z)))))
+          (λ d ne. upd-other (s .ar) k (s .ar k - (2 ^ 62 + n)) d ne)
+          (λ d ne. upd-other bit k 0 d ne)
+          (omega (arith, low))
+          (rw lq (omega (arith, low, stood, has, pick-same k n, upd-same (s .ar) k (s .ar k - (2 ^ 62 + n)))))
+          (rw lq (omega arith))
+          h
+          gq
+          (λ x m w. kept x m (a x m w))
+          (λ x m w. b x m (back x m w))
+          (λ x m w. absurd (c x w))
+          (λ j n w. absurd (d j n w))
 
-      by : (b : Bool) → ltb (suc k) C ≡ b → Counted P C (L .TR) (tally L (record { place = upd (s .place) p (cond b (U6 (suc k)) (U8 1)); nx = s .nx; st = s .st; tl = s .tl; ar = upd (s .ar) k (s .ar k - (2 ^ 62 + n)); de = s .de; at = s .at; lo = s .lo; hi = s .hi }) (upd bit k 0))
-      by true z = at (U6 (suc k)) (lowering (suc k)) refl refl (λ c m w. w) (λ c m w. w) (λ c w. w) (λ j n e. let z : _≡_ {A = ℕ} 0 1 = cc in omega arith)
-      by false z = at (U8 1) shut refl refl (λ c m w. absurd w) (λ c m w. omega (arith, ltb-false (suc k) C z)) (λ c w. w) (λ j n e. let z : _≡_ {A = ℕ} 0 1 = cc in omega arith)
+      by : (b : Bool) → ltb (suc k) C ≡ b
+          → Counted P C (L .TR)
+          (tally L
+          (record {
+            place = upd (s .place) p (cond b (U6 (suc k)) (U8 1));
+            nx = s .nx;
+            st = s .st;
+            tl = s .tl;
+            ar = upd (s .ar) k (s .ar k - (2 ^ 62 + n));
+            de = s .de;
+            at = s .at;
+            lo = s .lo;
+            hi = s .hi;
+          })
+          (upd bit k 0))
+      by true z =
+          at (U6 (suc k)) (lowering (suc k)) refl refl
+          (λ c m w. w)
+          (λ c m w. w)
+          (λ c w. w)
+          (λ j n e. let z : _≡_ {A = ℕ} 0 1 = cc in omega arith)
+      by false z =
+          at (U8 1) shut refl refl
+          (λ c m w. absurd w)
+          (λ c m w. omega (arith, ltb-false (suc k) C z))
+          (λ c w. w)
+          (λ j n e. let z : _≡_ {A = ℕ} 0 1 = cc in omega arith)
 
   -- rows that leave the rank's load and gate as they were
   abbrev Plain : ℕ → Place → Place → Type 0
-  Plain p f g = (gateOf g (s .st (T .node p (at-level g))) ≡ gateOf f (s .st (T .node p (at-level f)))) × (loadOf (L .home p) g ≡ loadOf (L .home p) f)
+  Plain p f g =
+      (gateOf g (s .st (T .node p (at-level g))) ≡ gateOf f (s .st (T .node p (at-level f))))
+      × (loadOf (L .home p) g ≡ loadOf (L .home p) f)
 
   plain : (p : ℕ) (f g : Place) → s .place p ≡ f → Plain p f g → Counted P C (L .TR) (tally L (go s p g) bit)
-  plain p f g e h = still (s .st) p g (h .0 ∙ sym (gate-at T s p f e)) (h .1 ∙ sym (ap (loadOf (L .home p)) e)) (λ q a. refl)
+  plain p f g e h =
+      still (s .st) p g (h .0 ∙ sym (gate-at T s p f e)) (h .1 ∙ sym (ap (loadOf (L .home p)) e)) (λ q a. refl)
 
-  owned : (p i u : ℕ) (f g : Place) → s .place p ≡ f → On (T .top p) i → level (T .top p) (phase T s p) ≤ suc i → gateOf g (upd (s .st) (T .node p i) u (T .node p (at-level g))) ≡ gateOf f (s .st (T .node p (at-level f))) → loadOf (L .home p) g ≡ loadOf (L .home p) f → Counted P C (L .TR) (tally L (go (put-st s (T .node p i) u) p g) bit)
-  owned p i u f g e on lv x y = still (upd (s .st) (T .node p i) u) p g (x ∙ sym (gate-at T s p f e)) (y ∙ sym (ap (loadOf (L .home p)) e)) (λ q a. gate-st p i u on lv q a)
+  owned : (p i u : ℕ) (f g : Place) → s .place p ≡ f → On (T .top p) i → level (T .top p) (phase T s p) ≤ suc i
+      → gateOf g (upd (s .st) (T .node p i) u (T .node p (at-level g))) ≡ gateOf f (s .st (T .node p (at-level f)))
+      → loadOf (L .home p) g ≡ loadOf (L .home p) f
+      → Counted P C (L .TR) (tally L (go (put-st s (T .node p i) u) p g) bit)
+  owned p i u f g e on lv x y =
+      still (upd (s .st) (T .node p i) u) p g (x ∙ sym (gate-at T s p f e)) (y ∙ sym (ap (loadOf (L .home p)) e))
+      (λ q a. gate-st p i u on lv q a)
 
   count-W6 : (p i : ℕ) → On P p → s .place p ≡ W6 i → Counted P C (L .TR) (tally L (row L s p (W6 i)) bit)
   count-W6 p i onp e = by (leb 2 i) refl
@@ -346,9 +845,28 @@ module _ (P : ℕ) (L : Plan) (G : Lawful (L .tree)) (small : (q j : ℕ) → L 
       lv : level (T .top p) (phase T s p) ≡ i
       lv = ap (level (T .top p)) was
 
-      by : (b : Bool) → leb 2 i ≡ b → Counted P C (L .TR) (tally L (go (put-st s (T .node p i) 0) p (cond b (W1 (pred i)) (W7 0))) bit)
+      by : (b : Bool) → leb 2 i ≡ b
+          → Counted P C (L .TR) (tally L (go (put-st s (T .node p i) 0) p (cond b (W1 (pred i)) (W7 0))) bit)
       by true z = owned p i 0 (W6 i) (W1 (pred i)) e on (omega (arith, lv)) refl refl
-      by false z = tallied P C (L .TR) (tally L (go s p (W7 0)) bit) (tally L (go (put-st s (T .node p i) 0) p (W7 0)) bit) (λ q. refl) (split p (λ q. gate T (go s p (W7 0)) q ≡ gate T (go (put-st s (T .node p i) 0) p (W7 0)) q) (gate-now T s p (W7 0) ∙ sym (gate-now T (put-st s (T .node p i) 0) p (W7 0))) (λ q a. gate-other T s p (W7 0) q a ∙ (sym (gate-st p i 0 on (omega (arith, lv)) q a) ∙ sym (gate-other T (put-st s (T .node p i) 0) p (W7 0) q a)))) (λ c. refl) (λ c. refl) (λ c. refl) (turn p (W6 i) (W7 0) onp (omega (arith, on)) e (omega (arith, lv, leb-false 2 i z)) refl refl (raising 0) refl (λ c m w. absurd (omega arith)) (λ c m w. absurd (subst (λ h. Marks h c) (gate-at T s p (W6 i) e) w)) (λ c m w. absurd w) (λ j n e. absurd (let z : _≡_ {A = ℕ} 0 1 = cc in omega arith)))
+      by false z =
+          tallied P C (L .TR) (tally L (go s p (W7 0)) bit) (tally L (go (put-st s (T .node p i) 0) p (W7 0)) bit)
+          (λ q. refl)
+          (split p
+          (λ q. gate T (go s p (W7 0)) q ≡ gate T (go (put-st s (T .node p i) 0) p (W7 0)) q)
+          (gate-now T s p (W7 0) ∙ sym (gate-now T (put-st s (T .node p i) 0) p (W7 0)))
+          (λ q a.
+          gate-other T s p (W7 0) q a
+          ∙ (sym (gate-st p i 0 on (omega (arith, lv)) q a)
+          ∙ sym (gate-other T (put-st s (T .node p i) 0) p (W7 0) q a))))
+          (λ c. refl)
+          (λ c. refl)
+          (λ c. refl)
+          (turn p (W6 i) (W7 0) onp (omega (arith, on)) e (omega (arith, lv, leb-false 2 i z)) refl refl
+          (raising 0) refl
+          (λ c m w. absurd (omega arith))
+          (λ c m w. absurd (subst (λ h. Marks h c) (gate-at T s p (W6 i) e) w))
+          (λ c m w. absurd w)
+          (λ j n e. absurd (let z : _≡_ {A = ℕ} 0 1 = cc in omega arith)))
 
   count-W5 : (p i : ℕ) → s .place p ≡ W5 i → Counted P C (L .TR) (tally L (row L s p (W5 i)) bit)
   count-W5 p i e = by (eqb w WAIT) (leb w 1000) (eqb w (tell i)) refl refl
@@ -356,7 +874,8 @@ module _ (P : ℕ) (L : Plan) (G : Lawful (L .tree)) (small : (q j : ℕ) → L 
       w : ℕ
       w = s .st (T .node p i)
 
-      by : (a b c : Bool) → eqb w WAIT ≡ a → leb w 1000 ≡ b → Counted P C (L .TR) (tally L (cond a s (cond b (go s p writes) (cond c (go s p (W6 i)) s))) bit)
+      by : (a b c : Bool) → eqb w WAIT ≡ a → leb w 1000 ≡ b
+          → Counted P C (L .TR) (tally L (cond a s (cond b (go s p writes) (cond c (go s p (W6 i)) s))) bit)
       by true b c x y = v .counted
       by false true c x y = plain p (W5 i) writes e (rw (x, y) (refl, refl))
       by false false true x y = plain p (W5 i) (W6 i) e (rw (x, y) (refl, refl))
@@ -380,24 +899,67 @@ module _ (P : ℕ) (L : Plan) (G : Lawful (L .tree)) (small : (q j : ℕ) → L 
     lv = rw (n .waits) (omega arith)
 
     gate-p : gate T (go s₁ p (done L s p i)) p ≡ shut
-    gate-p = gate-now T s₁ p (done L s p i) ∙ cond-both (eqb i (T .top p)) idle (U8 (suc i)) (λ g. (w : ℕ) → gateOf g w ≡ shut) (λ _ w. refl) (λ _ w. refl) (s₁ .st (T .node p (at-level (done L s p i))))
+    gate-p =
+        gate-now T s₁ p (done L s p i)
+        ∙ cond-both (eqb i (T .top p)) idle (U8 (suc i))
+        (λ g. (w : ℕ) → gateOf g w ≡ shut)
+        (λ _ w. refl)
+        (λ _ w. refl)
+        (s₁ .st (T .node p (at-level (done L s p i))))
 
     gate-r : gate T (go s₁ p (done L s p i)) (n .rank) ≡ gateOf (W5 i) u
-    gate-r = gate-other T s₁ p (done L s p i) (n .rank) r≢p ∙ (gate-at T s₁ (n .rank) (W5 i) at-r ∙ ap (gateOf (W5 i)) (upd-same (s .st) (T .node (n .rank) i) u))
+    gate-r =
+        gate-other T s₁ p (done L s p i) (n .rank) r≢p
+        ∙ (gate-at T s₁ (n .rank) (W5 i) at-r ∙ ap (gateOf (W5 i)) (upd-same (s .st) (T .node (n .rank) i) u))
 
     gate-o : (q : ℕ) → q ≢ p → q ≢ n .rank → gate T (go s₁ p (done L s p i)) q ≡ gate T s q
     gate-o q a b = gate-other T s₁ p (done L s p i) q a ∙ gate-st (n .rank) i u (n .on) lv q b
 
     loads : loadOf (L .home p) f ≡ none → (q : ℕ) → load q ≡ load′ p (done L s p i) q
-    loads z = split p (λ q. load q ≡ load′ p (done L s p i) q) (ap (loadOf (L .home p)) e ∙ (z ∙ (cond-both (eqb i (T .top p)) idle (U8 (suc i)) (λ g. none ≡ loadOf (L .home p) g) (λ _. refl) (λ _. refl) ∙ sym (load-now p (done L s p i))))) (λ q a. sym (load-other p (done L s p i) q a))
+    loads z =
+        split p
+        (λ q. load q ≡ load′ p (done L s p i) q)
+        (ap (loadOf (L .home p)) e
+        ∙ (z
+        ∙ (cond-both (eqb i (T .top p)) idle (U8 (suc i))
+        (λ g. none ≡ loadOf (L .home p) g)
+        (λ _. refl)
+        (λ _. refl) ∙ sym (load-now p (done L s p i)))))
+        (λ q a. sym (load-other p (done L s p i) q a))
 
-  count-U3 : (p i t n : ℕ) → On (T .top p) 1 → s .place p ≡ U3 i t n → Counted P C (L .TR) (tally L (row L s p (U3 i t n)) bit)
+  count-U3 : (p i t n : ℕ) → On (T .top p) 1 → s .place p ≡ U3 i t n
+      → Counted P C (L .TR) (tally L (row L s p (U3 i t n)) bit)
   count-U3 p i t u o e =
       let was : phase T s p ≡ give 1 i t = phase-at T s p (U3 i t u) e in
       let m = n p 1 i t u (U3 i t u) e was in
       let so = subst (Sound L (s .st) p) e (v .fine .sound p) in
-      let wd : gateOf (W5 i) u ≡ wide = rw (ne-eqb u WAIT (omega (arith, so .0, small i)), le-leb u 1000 (omega (arith, so .0, small i))) in
-      subst (λ y. Counted P C (L .TR) (tally L (go (put-st s y u) p (done L s p i)) bit)) (sym (m .target)) (tallied P C (L .TR) (record { load = load; gate = gate T (go (put-st s (T .node (m .rank) i) u) p (done L s p i)); ar = s .ar; de = s .de; bit = bit }) (tally L (go (put-st s (T .node (m .rank) i) u) p (done L s p i)) bit) (loads p 1 i t u (U3 i t u) e was refl) (λ q. refl) (λ c. refl) (λ c. refl) (λ c. refl) (traded P C (L .TR) (tally L s bit) (v .counted) p (m .rank) (gate T (go (put-st s (T .node (m .rank) i) u) p (done L s p i))) (record { was = gate-at T s p (U3 i t u) e; alone = alone p o (rw was (omega arith)); gives = gate-p p 1 i t u (U3 i t u) e was; takes = gate-r p 1 i t u (U3 i t u) e was ∙ wd; gates = gate-o p 1 i t u (U3 i t u) e was })))
+      let wd : gateOf (W5 i) u ≡ wide =
+      rw (ne-eqb u WAIT (omega (arith, so .0, small i)), le-leb u 1000 (omega (arith, so .0, small i))) in
+      subst
+      (λ y. Counted P C (L .TR) (tally L (go (put-st s y u) p (done L s p i)) bit))
+      (sym (m .target))
+      (tallied P C (L .TR)
+      (record {
+        load = load;
+        gate = gate T (go (put-st s (T .node (m .rank) i) u) p (done L s p i));
+        ar = s .ar;
+        de = s .de;
+        bit = bit;
+      })
+      (tally L (go (put-st s (T .node (m .rank) i) u) p (done L s p i)) bit)
+      (loads p 1 i t u (U3 i t u) e was refl)
+      (λ q. refl)
+      (λ c. refl)
+      (λ c. refl)
+      (λ c. refl)
+      (traded P C (L .TR) (tally L s bit) (v .counted) p (m .rank)
+      (gate T (go (put-st s (T .node (m .rank) i) u) p (done L s p i))) (record {
+        was = gate-at T s p (U3 i t u) e;
+        alone = alone p o (rw was (omega arith));
+        gives = gate-p p 1 i t u (U3 i t u) e was;
+        takes = gate-r p 1 i t u (U3 i t u) e was ∙ wd;
+        gates = gate-o p 1 i t u (U3 i t u) e was;
+      })))
 
   count-U9 : (p i t : ℕ) → s .place p ≡ U9 i t → Counted P C (L .TR) (tally L (row L s p (U9 i t)) bit)
   count-U9 p i t e =
@@ -408,23 +970,50 @@ module _ (P : ℕ) (L : Plan) (G : Lawful (L .tree)) (small : (q j : ℕ) → L 
       let big : (WAIT < tell i) × (1000 < tell i) = tell-big i in
       let told : gateOf (W5 i) u ≡ shut = rw (ne-eqb u WAIT (omega arith), lt-leb u 1000 (omega arith)) in
       let lr : level (T .top (m .rank)) (phase T s (m .rank)) ≡ suc i = ap (level (T .top (m .rank))) (m .waits) in
-      let before : gate T s (m .rank) ≡ shut = ⊎-elim (λ (z : gate T s (m .rank) ≡ shut). z) (λ (z : (level (T .top (m .rank)) (phase T s (m .rank)) ≡ 1) × On (T .top (m .rank)) 1). absurd (omega arith)) (gate-phase (T .top (m .rank)) (s .place (m .rank)) (s .st (T .node (m .rank) (at-level (s .place (m .rank))))) (inv .range (m .rank))) in
-      subst (λ y. Counted P C (L .TR) (tally L (go (put-st s y u) p (done L s p i)) bit)) (sym (m .target)) (tallied P C (L .TR) (tally L s bit) (tally L (go (put-st s (T .node (m .rank) i) u) p (done L s p i)) bit) (loads p i i t u (U9 i t) e was refl) (split₂ p (m .rank) (λ q. gate T s q ≡ gate T (go (put-st s (T .node (m .rank) i) u) p (done L s p i)) q) (gate-at T s p (U9 i t) e ∙ sym (gate-p p i i t u (U9 i t) e was)) (before ∙ (sym told ∙ sym (gate-r p i i t u (U9 i t) e was))) (λ q a b. sym (gate-o p i i t u (U9 i t) e was q a b))) (λ c. refl) (λ c. refl) (λ c. refl) (v .counted))
+      let before : gate T s (m .rank) ≡ shut =
+      ⊎-elim
+      (λ (z : gate T s (m .rank) ≡ shut). z)
+      (λ (z : (level (T .top (m .rank)) (phase T s (m .rank)) ≡ 1) × On (T .top (m .rank)) 1).
+      absurd (omega arith))
+      (gate-phase (T .top (m .rank)) (s .place (m .rank))
+      (s .st (T .node (m .rank) (at-level (s .place (m .rank))))) (inv .range (m .rank))) in
+      subst
+      (λ y. Counted P C (L .TR) (tally L (go (put-st s y u) p (done L s p i)) bit))
+      (sym (m .target))
+      (tallied P C (L .TR) (tally L s bit) (tally L (go (put-st s (T .node (m .rank) i) u) p (done L s p i)) bit)
+      (loads p i i t u (U9 i t) e was refl)
+      (split₂ p (m .rank)
+      (λ q. gate T s q ≡ gate T (go (put-st s (T .node (m .rank) i) u) p (done L s p i)) q)
+      (gate-at T s p (U9 i t) e ∙ sym (gate-p p i i t u (U9 i t) e was))
+      (before ∙ (sym told ∙ sym (gate-r p i i t u (U9 i t) e was)))
+      (λ q a b. sym (gate-o p i i t u (U9 i t) e was q a b)))
+      (λ c. refl)
+      (λ c. refl)
+      (λ c. refl)
+      (v .counted))
 
   -- two ways that are both plain
   two : (p : ℕ) (f : Place) (b : Bool) (g h : Place) → Plain p f g → Plain p f h → Plain p f (cond b g h)
   two p f b g h x y = cond-both b g h (Plain p f) (λ _. x) (λ _. y)
 
-  count-U5 : (p n : ℕ) → On P p → On (T .top p) 1 → s .place p ≡ U5 n → Counted P C (L .TR) (tally L (row L s p (U5 n)) bit)
+  count-U5 : (p n : ℕ) → On P p → On (T .top p) 1 → s .place p ≡ U5 n
+      → Counted P C (L .TR) (tally L (row L s p (U5 n)) bit)
   count-U5 p n onp o e = by (eqb (s .nx (T .node p 1)) 0) (ltb n (L .cap p 1))
     where
       g : gate T s p ≡ wide
       g = gate-at T s p (U5 n) e
 
       lower : Counted P C (L .TR) (tally L (go s p (U6 0)) bit)
-      lower = turn p (U5 n) (U6 0) onp o e (level-1 p (U5 n) e (λ w. refl)) refl refl (lowering 0) refl (λ c m w. rw g tt) (λ c m w. omega arith) (λ c m w. absurd w) (λ j n e. absurd (let z : _≡_ {A = ℕ} 0 1 = cc in omega arith))
+      lower =
+          turn p (U5 n) (U6 0) onp o e (level-1 p (U5 n) e (λ w. refl)) refl refl (lowering 0) refl
+          (λ c m w. rw g tt)
+          (λ c m w. omega arith)
+          (λ c m w. absurd w)
+          (λ j n e. absurd (let z : _≡_ {A = ℕ} 0 1 = cc in omega arith))
 
-      by : (a b : Bool) → Counted P C (L .TR) (tally L (go s p (cond a (U6 0) (cond b (U3 1 (s .nx (T .node p 1)) (suc n)) (U6 0)))) bit)
+      by : (a b : Bool)
+          → Counted P C (L .TR)
+          (tally L (go s p (cond a (U6 0) (cond b (U3 1 (s .nx (T .node p 1)) (suc n)) (U6 0)))) bit)
       by true b = lower
       by false true = plain p (U5 n) (U3 1 (s .nx (T .node p 1)) (suc n)) e (refl, refl)
       by false false = lower
@@ -432,8 +1021,11 @@ module _ (P : ℕ) (L : Plan) (G : Lawful (L .tree)) (small : (q j : ℕ) → L 
   count-U10 : (p i : ℕ) → s .place p ≡ U10 i → Counted P C (L .TR) (tally L (row L s p (U10 i)) bit)
   count-U10 p i e = by (eqb (s .tl (T .elem p i)) (T .node p i))
     where
-      by : (b : Bool) → Counted P C (L .TR) (tally L (cond b (go (free s (T .elem p i)) p (done L s p i)) (go s p (U8 i))) bit)
-      by true = plain p (U10 i) (done L s p i) e (two p (U10 i) (eqb i (T .top p)) idle (U8 (suc i)) (refl, refl) (refl, refl))
+      by : (b : Bool)
+          → Counted P C (L .TR) (tally L (cond b (go (free s (T .elem p i)) p (done L s p i)) (go s p (U8 i))) bit)
+      by true =
+          plain p (U10 i) (done L s p i) e
+          (two p (U10 i) (eqb i (T .top p)) idle (U8 (suc i)) (refl, refl) (refl, refl))
       by false = plain p (U10 i) (U8 i) e (refl, refl)
 
   -- the bits after a row
@@ -468,31 +1060,55 @@ module _ (P : ℕ) (L : Plan) (G : Lawful (L .tree)) (small : (q j : ℕ) → L 
   bits writes = bit
   bits reads = bit
 
-  pub count-row : (p : ℕ) → On P p → On (T .top p) 1 → (f : Place) → s .place p ≡ f → Counted P C (L .TR) (tally L (row L s p f) (bits f))
+  pub count-row : (p : ℕ) → On P p → On (T .top p) 1 → (f : Place) → s .place p ≡ f
+      → Counted P C (L .TR) (tally L (row L s p f) (bits f))
   count-row p on o idle e = v .counted
   count-row p on o (W1 i) e = plain p (W1 i) (W2 i) e (refl, refl)
-  count-row p on o (W2 i) e = let was = phase-at T s p (W2 i) e in owned p i WAIT (W2 i) (W3 i) e (subst (InRange (T .top p)) was (inv .range p)) (rw was (omega arith)) refl refl
-  count-row p on o (W3 i) e = plain p (W3 i) (cond (eqb (s .tl (T .elem p i)) 0) (W6 i) (W4 i (s .tl (T .elem p i)))) e (two p (W3 i) (eqb (s .tl (T .elem p i)) 0) (W6 i) (W4 i (s .tl (T .elem p i))) (refl, refl) (refl, refl))
-  count-row p on o (W4 i t) e = let so = subst (Sound L (s .st) p) e (v .fine .sound p) in plain p (W4 i t) (W5 i) e (rw (eq-eqb (s .st (T .node p i)) WAIT (so .0)) (refl, refl))
+  count-row p on o (W2 i) e =
+      let was = phase-at T s p (W2 i) e in
+      owned p i WAIT (W2 i) (W3 i) e (subst (InRange (T .top p)) was (inv .range p)) (rw was (omega arith)) refl refl
+  count-row p on o (W3 i) e =
+      plain p (W3 i) (cond (eqb (s .tl (T .elem p i)) 0) (W6 i) (W4 i (s .tl (T .elem p i)))) e
+      (two p (W3 i) (eqb (s .tl (T .elem p i)) 0) (W6 i) (W4 i (s .tl (T .elem p i))) (refl, refl) (refl, refl))
+  count-row p on o (W4 i t) e =
+      let so = subst (Sound L (s .st) p) e (v .fine .sound p) in
+      plain p (W4 i t) (W5 i) e (rw (eq-eqb (s .st (T .node p i)) WAIT (so .0)) (refl, refl))
   count-row p on o (W5 i) e = count-W5 p i e
   count-row p on o (W6 i) e = count-W6 p i on e
   count-row p on o (W7 k) e = count-W7 p k on o (subst (Within C) e (v .within p)) e
   count-row p on o (W8 k) e = count-W8 p k on o (subst (Within C) e (v .within p)) e
   count-row p on o (W9 k n) e = count-W9 p k n on o (subst (Within C) e (v .within p)) e
   count-row p on o (U1 i) e = plain p (U1 i) (U2 i (s .st (T .node p i))) e (refl, refl)
-  count-row p on o (U2 i n) e = let up = two p (U2 i n) (leb i 2) U4 (U1 (pred i)) (refl, refl) (refl, refl) in plain p (U2 i n) (cond (eqb (s .nx (T .node p i)) 0) (cond (leb i 2) U4 (U1 (pred i))) (cond (ltb n (L .cap p i)) (U3 i (s .nx (T .node p i)) (suc n)) (cond (leb i 2) U4 (U1 (pred i))))) e (two p (U2 i n) (eqb (s .nx (T .node p i)) 0) (cond (leb i 2) U4 (U1 (pred i))) (cond (ltb n (L .cap p i)) (U3 i (s .nx (T .node p i)) (suc n)) (cond (leb i 2) U4 (U1 (pred i)))) up (two p (U2 i n) (ltb n (L .cap p i)) (U3 i (s .nx (T .node p i)) (suc n)) (cond (leb i 2) U4 (U1 (pred i))) (refl, refl) up))
+  count-row p on o (U2 i n) e =
+      let up = two p (U2 i n) (leb i 2) U4 (U1 (pred i)) (refl, refl) (refl, refl) in
+      plain p (U2 i n)
+      (cond (eqb (s .nx (T .node p i)) 0) (cond (leb i 2) U4 (U1 (pred i)))
+      (cond (ltb n (L .cap p i)) (U3 i (s .nx (T .node p i)) (suc n)) (cond (leb i 2) U4 (U1 (pred i)))))
+      e
+      (two p (U2 i n) (eqb (s .nx (T .node p i)) 0) (cond (leb i 2) U4 (U1 (pred i)))
+      (cond (ltb n (L .cap p i)) (U3 i (s .nx (T .node p i)) (suc n)) (cond (leb i 2) U4 (U1 (pred i))))
+      up
+      (two p (U2 i n) (ltb n (L .cap p i)) (U3 i (s .nx (T .node p i)) (suc n))
+      (cond (leb i 2) U4 (U1 (pred i))) (refl, refl) up))
   count-row p on o (U3 i t n) e = count-U3 p i t n o e
   count-row p on o U4 e = plain p U4 (U5 (s .st (T .node p 1))) e (refl, refl)
   count-row p on o (U5 n) e = count-U5 p n on o e
   count-row p on o (U6 k) e = count-U6 p k on e
   count-row p on o (U7 k n) e = count-U7 p k n on o (subst (Within C) e (v .within p)) e
-  count-row p on o (U8 i) e = plain p (U8 i) (cond (eqb (s .nx (T .node p i)) 0) (U10 i) (U9 i (s .nx (T .node p i)))) e (two p (U8 i) (eqb (s .nx (T .node p i)) 0) (U10 i) (U9 i (s .nx (T .node p i))) (refl, refl) (refl, refl))
+  count-row p on o (U8 i) e =
+      plain p (U8 i) (cond (eqb (s .nx (T .node p i)) 0) (U10 i) (U9 i (s .nx (T .node p i)))) e
+      (two p (U8 i) (eqb (s .nx (T .node p i)) 0) (U10 i) (U9 i (s .nx (T .node p i))) (refl, refl) (refl, refl))
   count-row p on o (U9 i t) e = count-U9 p i t e
   count-row p on o (U10 i) e = count-U10 p i e
   count-row p on o R1 e = count-R1 p on e
   count-row p on o R2 e = count-R2 p on e
-  count-row p on o R3 e = plain p R3 (cond (ltb (s .ar (L .home p)) (L .TR)) R1 (cond (leb (2 ^ 62) (s .ar (L .home p))) R3 R4)) e (two p R3 (ltb (s .ar (L .home p)) (L .TR)) R1 (cond (leb (2 ^ 62) (s .ar (L .home p))) R3 R4) (refl, refl) (two p R3 (leb (2 ^ 62) (s .ar (L .home p))) R3 R4 (refl, refl) (refl, refl)))
-  count-row p on o R4 e = plain p R4 (cond (eqb (s .tl (T .elem p 1)) 0) R5 R3) e (two p R4 (eqb (s .tl (T .elem p 1)) 0) R5 R3 (refl, refl) (refl, refl))
+  count-row p on o R3 e =
+      plain p R3 (cond (ltb (s .ar (L .home p)) (L .TR)) R1 (cond (leb (2 ^ 62) (s .ar (L .home p))) R3 R4)) e
+      (two p R3 (ltb (s .ar (L .home p)) (L .TR)) R1 (cond (leb (2 ^ 62) (s .ar (L .home p))) R3 R4) (refl, refl)
+      (two p R3 (leb (2 ^ 62) (s .ar (L .home p))) R3 R4 (refl, refl) (refl, refl)))
+  count-row p on o R4 e =
+      plain p R4 (cond (eqb (s .tl (T .elem p 1)) 0) R5 R3) e
+      (two p R4 (eqb (s .tl (T .elem p 1)) 0) R5 R3 (refl, refl) (refl, refl))
   count-row p on o R5 e = count-R5 p on e
   count-row p on o (R6 n) e = count-R6 p n on e
   count-row p on o R7 e = count-R7 p on e
@@ -501,43 +1117,105 @@ module _ (P : ℕ) (L : Plan) (G : Lawful (L .tree)) (small : (q j : ℕ) → L 
 
   -- the counter's number of the new place is in range
   within-row : (p : ℕ) (g : Place) → Within C g → (q : ℕ) → Within C (upd (s .place) p g q)
-  within-row p g h = split p (λ q. Within C (upd (s .place) p g q)) (rw (upd-same (s .place) p g) h) (λ q a. rw (upd-other (s .place) p g q a) (v .within q))
+  within-row p g h =
+      split p
+      (λ q. Within C (upd (s .place) p g q))
+      (rw (upd-same (s .place) p g) h)
+      (λ q a. rw (upd-other (s .place) p g q a) (v .within q))
 
-  within-W5 : (p i : ℕ) (a b c : Bool) → (q : ℕ) → Within C ((cond a s (cond b (go s p writes) (cond c (go s p (W6 i)) s))) .place q)
+  within-W5 : (p i : ℕ) (a b c : Bool) → (q : ℕ)
+      → Within C ((cond a s (cond b (go s p writes) (cond c (go s p (W6 i)) s))) .place q)
   within-W5 p i true b c = v .within
   within-W5 p i false true c = within-row p writes tt
   within-W5 p i false false true = within-row p (W6 i) tt
   within-W5 p i false false false = v .within
 
-  within-U10 : (p i : ℕ) (b : Bool) → (q : ℕ) → Within C ((cond b (go (free s (T .elem p i)) p (done L s p i)) (go s p (U8 i))) .place q)
-  within-U10 p i true = within-row p (done L s p i) (cond-both (eqb i (T .top p)) (idle) (U8 (suc i)) (Within C) (λ _. tt) (λ _. tt))
+  within-U10 : (p i : ℕ) (b : Bool) → (q : ℕ)
+      → Within C ((cond b (go (free s (T .elem p i)) p (done L s p i)) (go s p (U8 i))) .place q)
+  within-U10 p i true =
+      within-row p (done L s p i) (cond-both (eqb i (T .top p)) (idle) (U8 (suc i)) (Within C) (λ _. tt) (λ _. tt))
   within-U10 p i false = within-row p (U8 i) tt
 
   within-all : (p : ℕ) (f : Place) → s .place p ≡ f → (q : ℕ) → Within C ((row L s p f) .place q)
   within-all p idle e = v .within
   within-all p (W1 i) e = within-row p (W2 i) (tt)
   within-all p (W2 i) e = within-row p (W3 i) (tt)
-  within-all p (W3 i) e = within-row p (cond (eqb (s .tl (T .elem p i)) 0) (W6 i) (W4 i (s .tl (T .elem p i)))) (cond-both (eqb (s .tl (T .elem p i)) 0) (W6 i) (W4 i (s .tl (T .elem p i))) (Within C) (λ _. tt) (λ _. tt))
+  within-all p (W3 i) e =
+      within-row p (cond (eqb (s .tl (T .elem p i)) 0) (W6 i) (W4 i (s .tl (T .elem p i))))
+      (cond-both (eqb (s .tl (T .elem p i)) 0) (W6 i) (W4 i (s .tl (T .elem p i))) (Within C) (λ _. tt) (λ _. tt))
   within-all p (W4 i t) e = within-row p (W5 i) (tt)
-  within-all p (W5 i) e = within-W5 p i (eqb (s .st (T .node p i)) WAIT) (leb (s .st (T .node p i)) 1000) (eqb (s .st (T .node p i)) (tell i))
-  within-all p (W6 i) e = within-row p (cond (leb 2 i) (W1 (pred i)) (W7 0)) (cond-both (leb 2 i) (W1 (pred i)) (W7 0) (Within C) (λ _. tt) (λ _. omega (arith, homes p)))
-  within-all p (W7 k) e = within-row p (next L s p k (W8 0) W7) (cond-both (ltb (suc k) C) (W7 (suc k)) (W8 0) (Within C) (λ z. ltb-true (suc k) C z) (λ _. omega (arith, homes p)))
+  within-all p (W5 i) e =
+      within-W5 p i (eqb (s .st (T .node p i)) WAIT) (leb (s .st (T .node p i)) 1000)
+      (eqb (s .st (T .node p i)) (tell i))
+  within-all p (W6 i) e =
+      within-row p (cond (leb 2 i) (W1 (pred i)) (W7 0))
+      (cond-both (leb 2 i) (W1 (pred i)) (W7 0) (Within C) (λ _. tt) (λ _. omega (arith, homes p)))
+  within-all p (W7 k) e =
+      within-row p (next L s p k (W8 0) W7)
+      (cond-both (ltb (suc k) C) (W7 (suc k)) (W8 0) (Within C)
+      (λ z. ltb-true (suc k) C z)
+      (λ _. omega (arith, homes p)))
   within-all p (W8 k) e = within-row p (W9 k (s .ar k)) (subst (Within C) e (v .within p))
-  within-all p (W9 k n) e = within-row p (cond (eqb n (2 ^ 62 + s .de k)) (next L s p k writes W8) (W8 k)) (cond-both (eqb n (2 ^ 62 + s .de k)) (next L s p k writes W8) (W8 k) (Within C) (λ _. cond-both (ltb (suc k) C) (W8 (suc k)) (writes) (Within C) (λ z. ltb-true (suc k) C z) (λ _. tt)) (λ _. subst (Within C) e (v .within p)))
+  within-all p (W9 k n) e =
+      within-row p (cond (eqb n (2 ^ 62 + s .de k)) (next L s p k writes W8) (W8 k))
+      (cond-both (eqb n (2 ^ 62 + s .de k)) (next L s p k writes W8) (W8 k) (Within C)
+      (λ _.
+      cond-both (ltb (suc k) C) (W8 (suc k)) (writes) (Within C)
+      (λ z. ltb-true (suc k) C z)
+      (λ _. tt))
+      (λ _. subst (Within C) e (v .within p)))
   within-all p (U1 i) e = within-row p (U2 i (s .st (T .node p i))) (tt)
-  within-all p (U2 i n) e = within-row p (cond (eqb (s .nx (T .node p i)) 0) (cond (leb i 2) U4 (U1 (pred i))) (cond (ltb n (L .cap p i)) (U3 i (s .nx (T .node p i)) (suc n)) (cond (leb i 2) U4 (U1 (pred i))))) (cond-both (eqb (s .nx (T .node p i)) 0) (cond (leb i 2) U4 (U1 (pred i))) (cond (ltb n (L .cap p i)) (U3 i (s .nx (T .node p i)) (suc n)) (cond (leb i 2) U4 (U1 (pred i)))) (Within C) (λ _. cond-both (leb i 2) (U4) (U1 (pred i)) (Within C) (λ _. tt) (λ _. tt)) (λ _. cond-both (ltb n (L .cap p i)) (U3 i (s .nx (T .node p i)) (suc n)) (cond (leb i 2) U4 (U1 (pred i))) (Within C) (λ _. tt) (λ _. cond-both (leb i 2) (U4) (U1 (pred i)) (Within C) (λ _. tt) (λ _. tt))))
-  within-all p (U3 i t n) e = within-row p (done L s p i) (cond-both (eqb i (T .top p)) (idle) (U8 (suc i)) (Within C) (λ _. tt) (λ _. tt))
+  within-all p (U2 i n) e =
+      within-row p
+      (cond (eqb (s .nx (T .node p i)) 0) (cond (leb i 2) U4 (U1 (pred i)))
+      (cond (ltb n (L .cap p i)) (U3 i (s .nx (T .node p i)) (suc n)) (cond (leb i 2) U4 (U1 (pred i)))))
+      (cond-both (eqb (s .nx (T .node p i)) 0) (cond (leb i 2) U4 (U1 (pred i)))
+      (cond (ltb n (L .cap p i)) (U3 i (s .nx (T .node p i)) (suc n)) (cond (leb i 2) U4 (U1 (pred i))))
+      (Within C)
+      (λ _. cond-both (leb i 2) (U4) (U1 (pred i)) (Within C) (λ _. tt) (λ _. tt))
+      (λ _.
+      cond-both (ltb n (L .cap p i)) (U3 i (s .nx (T .node p i)) (suc n))
+      (cond (leb i 2) U4 (U1 (pred i))) (Within C)
+      (λ _. tt)
+      (λ _. cond-both (leb i 2) (U4) (U1 (pred i)) (Within C) (λ _. tt) (λ _. tt))))
+  within-all p (U3 i t n) e =
+      within-row p (done L s p i) (cond-both (eqb i (T .top p)) (idle) (U8 (suc i)) (Within C) (λ _. tt) (λ _. tt))
   within-all p U4 e = within-row p (U5 (s .st (T .node p 1))) (tt)
-  within-all p (U5 n) e = within-row p (cond (eqb (s .nx (T .node p 1)) 0) (U6 0) (cond (ltb n (L .cap p 1)) (U3 1 (s .nx (T .node p 1)) (suc n)) (U6 0))) (cond-both (eqb (s .nx (T .node p 1)) 0) (U6 0) (cond (ltb n (L .cap p 1)) (U3 1 (s .nx (T .node p 1)) (suc n)) (U6 0)) (Within C) (λ _. omega (arith, homes p)) (λ _. cond-both (ltb n (L .cap p 1)) (U3 1 (s .nx (T .node p 1)) (suc n)) (U6 0) (Within C) (λ _. tt) (λ _. omega (arith, homes p))))
+  within-all p (U5 n) e =
+      within-row p
+      (cond (eqb (s .nx (T .node p 1)) 0) (U6 0)
+      (cond (ltb n (L .cap p 1)) (U3 1 (s .nx (T .node p 1)) (suc n)) (U6 0)))
+      (cond-both (eqb (s .nx (T .node p 1)) 0) (U6 0)
+      (cond (ltb n (L .cap p 1)) (U3 1 (s .nx (T .node p 1)) (suc n)) (U6 0)) (Within C)
+      (λ _. omega (arith, homes p))
+      (λ _.
+      cond-both (ltb n (L .cap p 1)) (U3 1 (s .nx (T .node p 1)) (suc n)) (U6 0) (Within C)
+      (λ _. tt)
+      (λ _. omega (arith, homes p))))
   within-all p (U6 k) e = within-row p (U7 k (s .de k)) (subst (Within C) e (v .within p))
-  within-all p (U7 k n) e = within-row p (next L s p k (U8 1) U6) (cond-both (ltb (suc k) C) (U6 (suc k)) (U8 1) (Within C) (λ z. ltb-true (suc k) C z) (λ _. tt))
-  within-all p (U8 i) e = within-row p (cond (eqb (s .nx (T .node p i)) 0) (U10 i) (U9 i (s .nx (T .node p i)))) (cond-both (eqb (s .nx (T .node p i)) 0) (U10 i) (U9 i (s .nx (T .node p i))) (Within C) (λ _. tt) (λ _. tt))
-  within-all p (U9 i t) e = within-row p (done L s p i) (cond-both (eqb i (T .top p)) (idle) (U8 (suc i)) (Within C) (λ _. tt) (λ _. tt))
+  within-all p (U7 k n) e =
+      within-row p (next L s p k (U8 1) U6)
+      (cond-both (ltb (suc k) C) (U6 (suc k)) (U8 1) (Within C) (λ z. ltb-true (suc k) C z) (λ _. tt))
+  within-all p (U8 i) e =
+      within-row p (cond (eqb (s .nx (T .node p i)) 0) (U10 i) (U9 i (s .nx (T .node p i))))
+      (cond-both (eqb (s .nx (T .node p i)) 0) (U10 i) (U9 i (s .nx (T .node p i))) (Within C)
+      (λ _. tt)
+      (λ _. tt))
+  within-all p (U9 i t) e =
+      within-row p (done L s p i) (cond-both (eqb i (T .top p)) (idle) (U8 (suc i)) (Within C) (λ _. tt) (λ _. tt))
   within-all p (U10 i) e = within-U10 p i (eqb (s .tl (T .elem p i)) (T .node p i))
-  within-all p R1 e = within-row p (cond (ltb (s .ar (L .home p)) (L .TR)) reads R2) (cond-both (ltb (s .ar (L .home p)) (L .TR)) (reads) (R2) (Within C) (λ _. tt) (λ _. tt))
+  within-all p R1 e =
+      within-row p (cond (ltb (s .ar (L .home p)) (L .TR)) reads R2)
+      (cond-both (ltb (s .ar (L .home p)) (L .TR)) (reads) (R2) (Within C) (λ _. tt) (λ _. tt))
   within-all p R2 e = within-row p (R3) (tt)
-  within-all p R3 e = within-row p (cond (ltb (s .ar (L .home p)) (L .TR)) R1 (cond (leb (2 ^ 62) (s .ar (L .home p))) R3 R4)) (cond-both (ltb (s .ar (L .home p)) (L .TR)) (R1) (cond (leb (2 ^ 62) (s .ar (L .home p))) R3 R4) (Within C) (λ _. tt) (λ _. cond-both (leb (2 ^ 62) (s .ar (L .home p))) (R3) (R4) (Within C) (λ _. tt) (λ _. tt)))
-  within-all p R4 e = within-row p (cond (eqb (s .tl (T .elem p 1)) 0) R5 R3) (cond-both (eqb (s .tl (T .elem p 1)) 0) (R5) (R3) (Within C) (λ _. tt) (λ _. tt))
+  within-all p R3 e =
+      within-row p (cond (ltb (s .ar (L .home p)) (L .TR)) R1 (cond (leb (2 ^ 62) (s .ar (L .home p))) R3 R4))
+      (cond-both (ltb (s .ar (L .home p)) (L .TR)) (R1) (cond (leb (2 ^ 62) (s .ar (L .home p))) R3 R4) (Within C)
+      (λ _. tt)
+      (λ _. cond-both (leb (2 ^ 62) (s .ar (L .home p))) (R3) (R4) (Within C) (λ _. tt) (λ _. tt)))
+  within-all p R4 e =
+      within-row p (cond (eqb (s .tl (T .elem p 1)) 0) R5 R3)
+      (cond-both (eqb (s .tl (T .elem p 1)) 0) (R5) (R3) (Within C) (λ _. tt) (λ _. tt))
   within-all p R5 e = within-row p (R6 (s .de (L .home p))) (tt)
   within-all p (R6 n) e = within-row p (R3) (tt)
   within-all p R7 e = within-row p (idle) (tt)
@@ -546,35 +1224,102 @@ module _ (P : ℕ) (L : Plan) (G : Lawful (L .tree)) (small : (q j : ℕ) → L 
 
   -- every row keeps the lock safe
   pub safe-row : (p : ℕ) → On (T .top p) 1 → (f : Place) → s .place p ≡ f → Safe P L (row L s p f) (bits f)
-  safe-row p o f e = record { fine = fine-row L G small s (v .fine) p o f e; counted = count-row p (ranks p o) o f e; within = within-all p f e }
+  safe-row p o f e =
+      record {
+        fine = fine-row L G small s (v .fine) p o f e;
+        counted = count-row p (ranks p o) o f e;
+        within = within-all p f e;
+      }
 
   pub safe-ask-write : (p : ℕ) → On (T .top p) 1 → s .place p ≡ idle → Safe P L (go s p (W1 (T .top p))) bit
-  safe-ask-write p o e = record { fine = fine-ask-write L G small s (v .fine) p o e; counted = plain p idle (W1 (T .top p)) e (refl, refl); within = within-row p (W1 (T .top p)) tt }
+  safe-ask-write p o e =
+      record {
+        fine = fine-ask-write L G small s (v .fine) p o e;
+        counted = plain p idle (W1 (T .top p)) e (refl, refl);
+        within = within-row p (W1 (T .top p)) tt;
+      }
 
   pub safe-ask-read : (p : ℕ) → s .place p ≡ idle → Safe P L (go s p R1) bit
-  safe-ask-read p e = record { fine = fine-ask-read L G small s (v .fine) p e; counted = plain p idle R1 e (refl, refl); within = within-row p R1 tt }
+  safe-ask-read p e =
+      record {
+        fine = fine-ask-read L G small s (v .fine) p e;
+        counted = plain p idle R1 e (refl, refl);
+        within = within-row p R1 tt;
+      }
 
-  pub safe-leave-write : (p : ℕ) → s .place p ≡ writes → Safe P L (go s p (cond (leb (T .top p) 1) U4 (U1 (T .top p)))) bit
-  safe-leave-write p e = record { fine = fine-leave-write L G small s (v .fine) p e; counted = plain p writes (cond (leb (T .top p) 1) U4 (U1 (T .top p))) e (two p writes (leb (T .top p) 1) U4 (U1 (T .top p)) (refl, refl) (refl, refl)); within = within-row p (cond (leb (T .top p) 1) U4 (U1 (T .top p))) (cond-both (leb (T .top p) 1) U4 (U1 (T .top p)) (Within C) (λ _. tt) (λ _. tt)) }
+  pub safe-leave-write : (p : ℕ) → s .place p ≡ writes
+      → Safe P L (go s p (cond (leb (T .top p) 1) U4 (U1 (T .top p)))) bit
+  safe-leave-write p e =
+      record {
+        fine = fine-leave-write L G small s (v .fine) p e;
+        counted =
+            plain p writes (cond (leb (T .top p) 1) U4 (U1 (T .top p))) e
+            (two p writes (leb (T .top p) 1) U4 (U1 (T .top p)) (refl, refl) (refl, refl));
+        within =
+            within-row p (cond (leb (T .top p) 1) U4 (U1 (T .top p)))
+            (cond-both (leb (T .top p) 1) U4 (U1 (T .top p)) (Within C) (λ _. tt) (λ _. tt));
+      }
 
   pub safe-leave-read : (p : ℕ) → On P p → s .place p ≡ reads → Safe P L (go s p R7) bit
-  safe-leave-read p on e = record { fine = fine-leave-read L G small s (v .fine) p e; counted = count-leave p on e; within = within-row p R7 tt }
+  safe-leave-read p on e =
+      record {
+        fine = fine-leave-read L G small s (v .fine) p e;
+        counted = count-leave p on e;
+        within = within-row p R7 tt;
+      }
 
   -- a writer is in: no reader is
   pub no-reader : (p q : ℕ) → On (T .top q) 1 → s .place p ≡ writes → s .place q ≡ reads → ⊥
-  no-reader p q o a b = v .counted .kept p (L .home q) (homes q) (rw (gate-at T s p writes a) tt) q (ranks q o) (ap (loadOf (L .home q)) b)
+  no-reader p q o a b =
+      v .counted .kept p (L .home q) (homes q) (rw (gate-at T s p writes a) tt) q (ranks q o)
+      (ap (loadOf (L .home q)) b)
 
 pub safe-start : (P : ℕ) (L : Plan) → Safe P L fresh-lock (λ c. 0)
-safe-start P L = record { fine = fine-start L; counted = record { each = λ c l. let z = total-zero P in record { sum = omega arith; small = omega arith; bits = omega arith; stands = λ w. absurd (omega arith) }; marked = λ p c l w. absurd w; kept = λ p c l w. absurd w; seen = λ p k n e. absurd (subst (λ g. Marks g k) (sym e) tt) }; within = λ p. tt }
+safe-start P L =
+    record {
+      fine = fine-start L;
+      counted = record {
+        each =
+            λ c l.
+            let z = total-zero P in
+            record {
+              sum = omega arith;
+              small = omega arith;
+              bits = omega arith;
+              stands = λ w. absurd (omega arith);
+            };
+        marked = λ p c l w. absurd w;
+        kept = λ p c l w. absurd w;
+        seen = λ p k n e. absurd (subst (λ g. Marks g k) (sym e) tt);
+      };
+      within = λ p. tt;
+    }
 
 pub safe-job : (P : ℕ) (L : Plan) → Sensible P L → (s : Lock) → Jobs P L s → (bit : ℕ → ℕ) × Safe P L s bit
 safe-job P L g s start = ((λ c. 0), safe-start P L)
-safe-job P L g s (stepped s₀ p o j) = let w = safe-job P L g s₀ j in (bits P L (g .tree) (g .small) (g .cap) (g .ranks) (g .root) (g .homes) s₀ (w .0) (w .1) (s₀ .place p), safe-row P L (g .tree) (g .small) (g .cap) (g .ranks) (g .root) (g .homes) s₀ (w .0) (w .1) p o (s₀ .place p) refl)
-safe-job P L g s (asked-write s₀ p o e j) = let w = safe-job P L g s₀ j in (w .0, safe-ask-write P L (g .tree) (g .small) (g .cap) (g .ranks) (g .root) (g .homes) s₀ (w .0) (w .1) p o e)
-safe-job P L g s (asked-read s₀ p e j) = let w = safe-job P L g s₀ j in (w .0, safe-ask-read P L (g .tree) (g .small) (g .cap) (g .ranks) (g .root) (g .homes) s₀ (w .0) (w .1) p e)
-safe-job P L g s (left-write s₀ p e j) = let w = safe-job P L g s₀ j in (w .0, safe-leave-write P L (g .tree) (g .small) (g .cap) (g .ranks) (g .root) (g .homes) s₀ (w .0) (w .1) p e)
-safe-job P L g s (left-read s₀ p on e j) = let w = safe-job P L g s₀ j in (w .0, safe-leave-read P L (g .tree) (g .small) (g .cap) (g .ranks) (g .root) (g .homes) s₀ (w .0) (w .1) p on e)
+safe-job P L g s (stepped s₀ p o j) =
+    let w = safe-job P L g s₀ j in (
+      bits P L (g .tree) (g .small) (g .cap) (g .ranks) (g .root) (g .homes) s₀ (w .0) (w .1) (s₀ .place p),
+      safe-row P L (g .tree) (g .small) (g .cap) (g .ranks) (g .root) (g .homes) s₀ (w .0) (w .1) p o (s₀ .place p)
+          refl,
+    )
+safe-job P L g s (asked-write s₀ p o e j) =
+    let w = safe-job P L g s₀ j in
+    (w .0, safe-ask-write P L (g .tree) (g .small) (g .cap) (g .ranks) (g .root) (g .homes) s₀ (w .0) (w .1) p o e)
+safe-job P L g s (asked-read s₀ p e j) =
+    let w = safe-job P L g s₀ j in
+    (w .0, safe-ask-read P L (g .tree) (g .small) (g .cap) (g .ranks) (g .root) (g .homes) s₀ (w .0) (w .1) p e)
+safe-job P L g s (left-write s₀ p e j) =
+    let w = safe-job P L g s₀ j in
+    (w .0, safe-leave-write P L (g .tree) (g .small) (g .cap) (g .ranks) (g .root) (g .homes) s₀ (w .0) (w .1) p e)
+safe-job P L g s (left-read s₀ p on e j) =
+    let w = safe-job P L g s₀ j in
+    (w .0, safe-leave-read P L (g .tree) (g .small) (g .cap) (g .ranks) (g .root) (g .homes) s₀ (w .0) (w .1) p on e)
 
 -- exclusion, after any job
 pub exclusion : Exclusion
-exclusion P L g s j p q o o′ a = let w = safe-job P L g s j in ((λ b. one-writer L (g .tree) (g .small) s (w .1 .fine) p q o o′ (g .root p q o o′) a b), (λ b. no-reader P L (g .tree) (g .small) (g .cap) (g .ranks) (g .root) (g .homes) s (w .0) (w .1) p q o′ a b))
+exclusion P L g s j p q o o′ a =
+    let w = safe-job P L g s j in (
+      (λ b. one-writer L (g .tree) (g .small) s (w .1 .fine) p q o o′ (g .root p q o o′) a b),
+      (λ b. no-reader P L (g .tree) (g .small) (g .cap) (g .ranks) (g .root) (g .homes) s (w .0) (w .1) p q o′ a b),
+    )

@@ -7,10 +7,13 @@ use lib.Dec.{eqb, leb, ltb}
 use native.Mathlib.Omega.{arith}
 use Rattle.std.proofs.shelf.Tests.{cases-eq, cases-lt, eq-eqb, ne-eqb}
 use Rattle.std.proofs.shelf.Ways.{tells}
-use Rattle.queues.specs.Machine.{Tree, Lawful, On, Phase, out, fresh, clean, ready, link, wait, hold, give, level, InRange, Waits, State, Inv}
+use Rattle.queues.specs.Machine.{Tree, Lawful, On, Phase, out, fresh, clean, ready, link, wait, hold, give, level}
+use Rattle.queues.specs.Machine.{InRange, Waits, State, Inv}
 use Rattle.queues.specs.Counters.{total, tries, clears, Marks}
 use Rattle.queues.specs.Counters
-use Rattle.queues.specs.Rows.{Place, idle, W1, W2, W3, W4, W5, W6, W7, W8, W9, U1, U2, U3, U4, U5, U6, U7, U8, U9, U10, R1, R2, R3, R4, R5, R6, R7, writes, reads, WAIT, tell, Plan, Lock, upd, phaseOf, at-level, phase, view, Sound, Fine, go, row}
+use Rattle.queues.specs.Rows.{Place, idle, W1, W2, W3, W4, W5, W6, W7, W8, W9, U1, U2, U3, U4, U5, U6, U7, U8, U9}
+use Rattle.queues.specs.Rows.{U10, R1, R2, R3, R4, R5, R6, R7, writes, reads, WAIT, tell, Plan, Lock, upd, phaseOf}
+use Rattle.queues.specs.Rows.{at-level, phase, view, Sound, Fine, go, row}
 use Rattle.queues.specs.Whole.{loadOf, Within, Safe, tally}
 use Rattle.queues.specs.Way.{tag, Move, Step, Leave, Accepted, act, Apt}
 use Rattle.queues.proofs.Base.{one-holder}
@@ -78,11 +81,15 @@ number N C R7 = 0
 number N C writes = (2 * C + 4 * N + 1)
 number N C reads = 0
 
-falls : (L : Plan) (s : Lock) (p : ℕ) (f : Place) → 0 < L .counters → On (L .tree .top p) 1 → Able L s p f → number (L .tree .top p) (L .counters) (row L s p f .place p) < number (L .tree .top p) (L .counters) f
+falls : (L : Plan) (s : Lock) (p : ℕ) (f : Place) → 0 < L .counters → On (L .tree .top p) 1 → Able L s p f
+    → number (L .tree .top p) (L .counters) (row L s p f .place p) < number (L .tree .top p) (L .counters) f
 unfolding upd
 falls L s p f c o a = grind (arith, tells)
 
-able-or : (L : Plan) (s : Lock) (p : ℕ) (f : Place) → ((q j : ℕ) → L .cap q j ≤ 1000) → InRange (L .tree .top p) (phaseOf f (s .st (L .tree .node p (at-level f)))) → Sound L (s .st) p f → Within (L .counters) f → NoWait (phaseOf f (s .st (L .tree .node p (at-level f)))) → 0 < number (L .tree .top p) (L .counters) f → Able L s p f ⊎ Odd f
+able-or : (L : Plan) (s : Lock) (p : ℕ) (f : Place) → ((q j : ℕ) → L .cap q j ≤ 1000)
+    → InRange (L .tree .top p) (phaseOf f (s .st (L .tree .node p (at-level f)))) → Sound L (s .st) p f
+    → Within (L .counters) f → NoWait (phaseOf f (s .st (L .tree .node p (at-level f))))
+    → 0 < number (L .tree .top p) (L .counters) f → Able L s p f ⊎ Odd f
 able-or L s p f c r so w n a = grind (arith, tells)
 
 odd-is : (f : Place) → Odd f → (f ≡ writes) ⊎ (((k : ℕ) × (n : ℕ) × (f ≡ W9 k n)) ⊎ ((i : ℕ) × (f ≡ U10 i)))
@@ -92,16 +99,22 @@ able-quiet : (L : Plan) (s : Lock) (p : ℕ) (f : Place) → Able L s p f → Bu
 unfolding upd
 able-quiet L s p f a = grind (arith, tells)
 
-holds-ahead : (N C : ℕ) (f : Place) (w : ℕ) → Within C f → InRange N (phaseOf f w) → level N (phaseOf f w) ≤ N → On N 1 × (0 < number N C f)
+holds-ahead : (N C : ℕ) (f : Place) (w : ℕ) → Within C f → InRange N (phaseOf f w) → level N (phaseOf f w) ≤ N
+    → On N 1 × (0 < number N C f)
 holds-ahead N C f w a r l = grind (arith, tells)
 
 only-W4 : (f : Place) (w i t : ℕ) → phaseOf f w ≡ link i t → f ≡ W4 i t
 only-W4 f w i t e = grind (arith, tells)
 
-loads : (c : ℕ) (f : Place) (k : ℕ) → stage-1 f ≡ 0 → (tries (loadOf c f) k ≡ 0) × (Counters.reads (loadOf c f) k ≡ 0) × ((clears (loadOf c f) k ≡ 0) ⊎ ((j : ℕ) × (n : ℕ) × (f ≡ U7 j n)))
+loads : (c : ℕ) (f : Place) (k : ℕ) → stage-1 f ≡ 0
+    → (tries (loadOf c f) k ≡ 0) × (Counters.reads (loadOf c f) k ≡ 0)
+    × ((clears (loadOf c f) k ≡ 0) ⊎ ((j : ℕ) × (n : ℕ) × (f ≡ U7 j n)))
 loads c f k h = grind (arith, tells)
 
-leave-falls : (L : Plan) (p : ℕ) → On (L .tree .top p) 1 → (stage-1 (cond (leb (L .tree .top p) 1) U4 (U1 (L .tree .top p))) ≡ 0) × (number (L .tree .top p) (L .counters) (cond (leb (L .tree .top p) 1) U4 (U1 (L .tree .top p))) < number (L .tree .top p) (L .counters) writes)
+leave-falls : (L : Plan) (p : ℕ) → On (L .tree .top p) 1
+    → (stage-1 (cond (leb (L .tree .top p) 1) U4 (U1 (L .tree .top p))) ≡ 0)
+    × (number (L .tree .top p) (L .counters) (cond (leb (L .tree .top p) 1) U4 (U1 (L .tree .top p)))
+    < number (L .tree .top p) (L .counters) writes)
 leave-falls L p o = grind (arith, tells)
 
 module _ (P : ℕ) (L : Plan) (g : Apt P L) where
@@ -122,33 +135,65 @@ module _ (P : ℕ) (L : Plan) (g : Apt P L) where
   Less = Lower P L stage-2 Quiet
 
   -- the end of a macro of the rank p
-  ends : (s t : Lock) (p : ℕ) → On P p → Quiet s → Good P L t → ((q : ℕ) → q ≢ p → t .place q ≡ s .place q) → stage-1 (t .place p) ≡ 0 → stage-2 p (t .place p) < stage-2 p (s .place p) → Reach P L (Less s) t
-  ends s t p on v w e z l = here t ((w, split p (λ q. On P q → stage-1 (t .place q) ≡ 0) (λ _. z) (λ q a o. ap stage-1 (e q a) ∙ v .1 q o)), lowers P L g stage-2 s t p on e l)
+  ends : (s t : Lock) (p : ℕ) → On P p → Quiet s → Good P L t → ((q : ℕ) → q ≢ p → t .place q ≡ s .place q)
+      → stage-1 (t .place p) ≡ 0 → stage-2 p (t .place p) < stage-2 p (s .place p) → Reach P L (Less s) t
+  ends s t p on v w e z l =
+      here t (
+        (w, split p (λ q. On P q → stage-1 (t .place q) ≡ 0) (λ _. z) (λ q a o. ap stage-1 (e q a) ∙ v .1 q o)),
+        lowers P L g stage-2 s t p on e l,
+      )
 
   -- one move
-  one-move : (s : Lock) → Quiet s → (p : ℕ) → On P p → (f : Place) → s .place p ≡ f → Able L s p f → Reach P L (Less s) s
+  one-move : (s : Lock) → Quiet s → (p : ℕ) → On P p → (f : Place) → s .place p ≡ f → Able L s p f
+      → Reach P L (Less s) s
   one-move s v p on f e a =
       let d = able-quiet L s p f a in
-      by-step P L g (Less s) s (v .0) p on f e (d .0) (λ w. ends s (row L s p f) p on v w (λ q n. row-other L s p f q n) (d .1) (rw e (falls L s p f (omega (arith, g .sensible .homes p)) (g .all p on) a)))
+      by-step P L g (Less s) s (v .0) p on f e (d .0)
+      (λ w.
+      ends s (row L s p f) p on v w
+      (λ q n. row-other L s p f q n)
+      (d .1)
+      (rw e (falls L s p f (omega (arith, g .sensible .homes p)) (g .all p on) a)))
 
   one-leave : (s : Lock) → Quiet s → (p : ℕ) → On P p → s .place p ≡ writes → Reach P L (Less s) s
   one-leave s v p on e =
       let f : Place = cond (leb (T .top p) 1) U4 (U1 (T .top p)) in
       let d = leave-falls L p (g .all p on) in
-      by-leave-write P L g (Less s) s (v .0) p on e (λ w. ends s (go s p f) p on v w (λ q n. upd-other (s .place) p f q n) (rw (upd-same (s .place) p f) (d .0)) (rw (upd-same (s .place) p f, e) (d .1)))
+      by-leave-write P L g (Less s) s (v .0) p on e
+      (λ w.
+      ends s (go s p f) p on v w
+      (λ q n. upd-other (s .place) p f q n)
+      (rw (upd-same (s .place) p f) (d .0))
+      (rw (upd-same (s .place) p f, e) (d .1)))
 
   -- the counter is drained: W8 reads what W9 wants
   drained : (s : Lock) → Quiet s → (p k n : ℕ) → On P p → s .place p ≡ W9 k n → k < C → s .ar k ≡ 2 ^ 62 + s .de k
-  drained s v p k n on e lt = passes P C (L .TR) (tally L s (v .0 .bit)) (v .0 .safe .counted) k lt (v .0 .safe .counted .marked p k lt (subst (λ x. Marks x k) (sym (gate-at T s p (W9 k n) e)) tt)) (λ q o. nothing q o (loads (L .home q) (s .place q) k (v .1 q o)))
+  drained s v p k n on e lt =
+      passes P C (L .TR) (tally L s (v .0 .bit)) (v .0 .safe .counted) k lt
+      (v .0 .safe .counted .marked p k lt (subst (λ x. Marks x k) (sym (gate-at T s p (W9 k n) e)) tt))
+      (λ q o. nothing q o (loads (L .home q) (s .place q) k (v .1 q o)))
     where
       alone : (q j m : ℕ) → On P q → s .place q ≡ U7 j m → ⊥
       alone q j m o u =
-          let z : q ≡ p = one-holder T (g .sensible .tree) (view T s) (v .0 .safe .fine .queues) q p 1 (g .all q o) (g .all p on) (rw (phase-at T s q (U7 j m) u) (omega arith)) (rw (phase-at T s p (W9 k n) e) (omega arith)) (g .sensible .root q p (g .all q o) (g .all p on)) in
-          let y : W9 k n ≡ U7 j m = sym e ∙ (ap (s .place) (sym z) ∙ u) in
-          let x : _≡_ {A = ℕ} 0 1 = cc in omega arith
+          let z : q ≡ p =
+          one-holder T (g .sensible .tree) (view T s) (v .0 .safe .fine .queues) q p 1 (g .all q o) (g .all p on)
+          (rw (phase-at T s q (U7 j m) u) (omega arith)) (rw (phase-at T s p (W9 k n) e) (omega arith))
+          (g .sensible .root q p (g .all q o) (g .all p on)) in
+          let y : W9 k n ≡ U7 j m = sym e ∙ (ap (s .place) (sym z) ∙ u) in let x : _≡_ {A = ℕ} 0 1 = cc in omega arith
 
-      nothing : (q : ℕ) → On P q → (tries (loadOf (L .home q) (s .place q)) k ≡ 0) × (Counters.reads (loadOf (L .home q) (s .place q)) k ≡ 0) × ((clears (loadOf (L .home q) (s .place q)) k ≡ 0) ⊎ ((j : ℕ) × (m : ℕ) × (s .place q ≡ U7 j m))) → (tries (loadOf (L .home q) (s .place q)) k ≡ 0) × (Counters.reads (loadOf (L .home q) (s .place q)) k ≡ 0) × (clears (loadOf (L .home q) (s .place q)) k ≡ 0)
-      nothing q o h = (h .0, h .1, ⊎-elim (λ (z : clears (loadOf (L .home q) (s .place q)) k ≡ 0). z) (λ (z : (j : ℕ) × (m : ℕ) × (s .place q ≡ U7 j m)). absurd (alone q (z .0) (z .1) o (z .2))) (h .2))
+      nothing : (q : ℕ) → On P q
+          → (tries (loadOf (L .home q) (s .place q)) k ≡ 0) × (Counters.reads (loadOf (L .home q) (s .place q)) k ≡ 0)
+          × ((clears (loadOf (L .home q) (s .place q)) k ≡ 0) ⊎ ((j : ℕ) × (m : ℕ) × (s .place q ≡ U7 j m)))
+          → (tries (loadOf (L .home q) (s .place q)) k ≡ 0) × (Counters.reads (loadOf (L .home q) (s .place q)) k ≡ 0)
+          × (clears (loadOf (L .home q) (s .place q)) k ≡ 0)
+      nothing q o h = (
+        h .0,
+        h .1,
+        ⊎-elim
+            (λ (z : clears (loadOf (L .home q) (s .place q)) k ≡ 0). z)
+            (λ (z : (j : ℕ) × (m : ℕ) × (s .place q ≡ U7 j m)). absurd (alone q (z .0) (z .1) o (z .2)))
+            (h .2),
+      )
 
   -- W9, one move or three
   check-again : (s : Lock) → Quiet s → (p k n : ℕ) → On P p → s .place p ≡ W9 k n → Reach P L (Less s) s
@@ -167,14 +212,24 @@ module _ (P : ℕ) (L : Plan) (g : Apt P L) where
       able = (lt, drained s v p k n on e lt)
 
       third : Good P L s₂ → Reach P L (Less s) s₂
-      third w = let d = able-quiet L s₂ p (W9 k (s .ar k)) able in by-step P L g (Less s) s₂ w p on (W9 k (s .ar k)) (upd-same (s₁ .place) p (W9 k (s .ar k))) (d .0) (λ x. ends s (row L s₂ p (W9 k (s .ar k))) p on v x (λ q a. row-other L s₂ p (W9 k (s .ar k)) q a ∙ (upd-other (s₁ .place) p (W9 k (s .ar k)) q a ∙ upd-other (s .place) p (W8 k) q a)) (d .1) (rw e (falls L s₂ p (W9 k (s .ar k)) (omega (arith, g .sensible .homes p)) (g .all p on) able)))
+      third w =
+          let d = able-quiet L s₂ p (W9 k (s .ar k)) able in
+          by-step P L g (Less s) s₂ w p on (W9 k (s .ar k)) (upd-same (s₁ .place) p (W9 k (s .ar k))) (d .0)
+          (λ x.
+          ends s (row L s₂ p (W9 k (s .ar k))) p on v x
+          (λ q a.
+          row-other L s₂ p (W9 k (s .ar k)) q a
+          ∙ (upd-other (s₁ .place) p (W9 k (s .ar k)) q a ∙ upd-other (s .place) p (W8 k) q a))
+          (d .1)
+          (rw e (falls L s₂ p (W9 k (s .ar k)) (omega (arith, g .sensible .homes p)) (g .all p on) able)))
 
       second : Good P L s₁ → Reach P L (Less s) s₁
       second w = by-step P L g (Less s) s₁ w p on (W8 k) (upd-same (s .place) p (W8 k)) (omega arith) third
 
       by : (n ≡ 2 ^ 62 + s .de k) ⊎ (n ≡ 2 ^ 62 + s .de k → ⊥) → Reach P L (Less s) s
       by (inl z) = one-move s v p on (W9 k n) e (lt, z)
-      by (inr z) = by-step P L g (Less s) s (v .0) p on (W9 k n) e (omega arith) (rw (ne-eqb n (2 ^ 62 + s .de k) z) second)
+      by (inr z) =
+          by-step P L g (Less s) s (v .0) p on (W9 k n) e (omega arith) (rw (ne-eqb n (2 ^ 62 + s .de k) z) second)
 
   -- U10, one move or three, or a move of the rank that is about to link itself
   last-or-not : (s : Lock) → Quiet s → (p i : ℕ) → On P p → s .place p ≡ U10 i → Reach P L (Less s) s
@@ -199,24 +254,49 @@ module _ (P : ℕ) (L : Plan) (g : Apt P L) where
       s₂ = go s₁ p (U9 i t)
 
       third : Good P L s₂ → Reach P L (Less s) s₂
-      third w = let d = able-quiet L s₂ p (U9 i t) oi in by-step P L g (Less s) s₂ w p on (U9 i t) (upd-same (s₁ .place) p (U9 i t)) (d .0) (λ x. ends s (row L s₂ p (U9 i t)) p on v x (λ q a. row-other L s₂ p (U9 i t) q a ∙ (upd-other (s₁ .place) p (U9 i t) q a ∙ upd-other (s .place) p (U8 i) q a)) (d .1) (rw e (falls L s₂ p (U9 i t) (omega (arith, g .sensible .homes p)) (g .all p on) oi)))
+      third w =
+          let d = able-quiet L s₂ p (U9 i t) oi in
+          by-step P L g (Less s) s₂ w p on (U9 i t) (upd-same (s₁ .place) p (U9 i t)) (d .0)
+          (λ x.
+          ends s (row L s₂ p (U9 i t)) p on v x
+          (λ q a.
+          row-other L s₂ p (U9 i t) q a
+          ∙ (upd-other (s₁ .place) p (U9 i t) q a ∙ upd-other (s .place) p (U8 i) q a))
+          (d .1)
+          (rw e (falls L s₂ p (U9 i t) (omega (arith, g .sensible .homes p)) (g .all p on) oi)))
 
       second : t ≢ 0 → Good P L s₁ → Reach P L (Less s) s₁
-      second z w = by-step P L g (Less s) s₁ w p on (U8 i) (upd-same (s .place) p (U8 i)) (omega arith) (rw (ne-eqb t 0 z) third)
+      second z w =
+          by-step P L g (Less s) s₁ w p on (U8 i) (upd-same (s .place) p (U8 i)) (omega arith)
+          (rw (ne-eqb t 0 z) third)
 
-      other : s .tl (T .elem p i) ≢ T .node p i → (m : Follower T (view T s) p i) → ((phase T s (m .rank) ≡ wait i) × (t ≡ T .node (m .rank) i)) ⊎ (phase T s (m .rank) ≡ link i (T .node p i)) → Reach P L (Less s) s
-      other z m (inl y) = by-step P L g (Less s) s (v .0) p on (U10 i) e (omega arith) (rw (ne-eqb (s .tl (T .elem p i)) (T .node p i) z) (second (λ x. g .sensible .tree .no-zero (m .rank) i (m .on) (sym (y .1) ∙ x))))
-      other z m (inr y) = one-move s v (m .rank) (g .sensible .ranks (m .rank) (omega (arith, m .on))) (W4 i (T .node p i)) (only-W4 (s .place (m .rank)) (s .st (T .node (m .rank) (at-level (s .place (m .rank))))) i (T .node p i) y) tt
+      other : s .tl (T .elem p i) ≢ T .node p i → (m : Follower T (view T s) p i)
+          → ((phase T s (m .rank) ≡ wait i) × (t ≡ T .node (m .rank) i))
+          ⊎ (phase T s (m .rank) ≡ link i (T .node p i)) → Reach P L (Less s) s
+      other z m (inl y) =
+          by-step P L g (Less s) s (v .0) p on (U10 i) e (omega arith)
+          (rw (ne-eqb (s .tl (T .elem p i)) (T .node p i) z)
+          (second (λ x. g .sensible .tree .no-zero (m .rank) i (m .on) (sym (y .1) ∙ x))))
+      other z m (inr y) =
+          one-move s v (m .rank) (g .sensible .ranks (m .rank) (omega (arith, m .on))) (W4 i (T .node p i))
+          (only-W4 (s .place (m .rank)) (s .st (T .node (m .rank) (at-level (s .place (m .rank))))) i
+          (T .node p i) y)
+          tt
 
       by : (s .tl (T .elem p i) ≡ T .node p i) ⊎ (s .tl (T .elem p i) ≡ T .node p i → ⊥) → Reach P L (Less s) s
       by (inl z) = one-move s v p on (U10 i) e (oi, z)
       by (inr z) = let m = follower T (g .sensible .tree) (view T s) inv p i was z in other z m (m .how)
 
   -- a rank that does not wait
-  free-move : (s : Lock) → Quiet s → (p : ℕ) → On P p → ((i : ℕ) → phase T s p ≢ wait i) → 0 < stage-2 p (s .place p) → Reach P L (Less s) s
-  free-move s v p on n h = by (able-or L s p (s .place p) (g .sensible .small) (v .0 .safe .fine .queues .range p) (v .0 .safe .fine .sound p) (v .0 .safe .within p) (no-wait (phase T s p) n) h)
+  free-move : (s : Lock) → Quiet s → (p : ℕ) → On P p → ((i : ℕ) → phase T s p ≢ wait i) → 0 < stage-2 p (s .place p)
+      → Reach P L (Less s) s
+  free-move s v p on n h =
+      by
+      (able-or L s p (s .place p) (g .sensible .small) (v .0 .safe .fine .queues .range p)
+      (v .0 .safe .fine .sound p) (v .0 .safe .within p) (no-wait (phase T s p) n) h)
     where
-      odd : (s .place p ≡ writes) ⊎ (((k : ℕ) × (n : ℕ) × (s .place p ≡ W9 k n)) ⊎ ((i : ℕ) × (s .place p ≡ U10 i))) → Reach P L (Less s) s
+      odd : (s .place p ≡ writes) ⊎ (((k : ℕ) × (n : ℕ) × (s .place p ≡ W9 k n)) ⊎ ((i : ℕ) × (s .place p ≡ U10 i)))
+          → Reach P L (Less s) s
       odd (inl e) = one-leave s v p on e
       odd (inr (inl e)) = check-again s v p (e .0) (e .1) on (e .2)
       odd (inr (inr e)) = last-or-not s v p (e .0) on (e .1)
@@ -233,7 +313,12 @@ module _ (P : ℕ) (L : Plan) (g : Apt P L) where
       inv = v .0 .safe .fine .queues
 
       other : Mover T (view T s) → Reach P L (Less s) s
-      other m = let d = holds-ahead (T .top (m .rank)) C (s .place (m .rank)) (s .st (T .node (m .rank) (at-level (s .place (m .rank))))) (v .0 .safe .within (m .rank)) (inv .range (m .rank)) (m .holds) in free-move s v (m .rank) (g .sensible .ranks (m .rank) (d .0)) (m .free) (d .1)
+      other m =
+          let d =
+          holds-ahead (T .top (m .rank)) C (s .place (m .rank))
+          (s .st (T .node (m .rank) (at-level (s .place (m .rank))))) (v .0 .safe .within (m .rank))
+          (inv .range (m .rank)) (m .holds) in
+          free-move s v (m .rank) (g .sensible .ranks (m .rank) (d .0)) (m .free) (d .1)
 
       by : ((i : ℕ) × (phase T s p ≡ wait i)) ⊎ ((i : ℕ) → phase T s p ≢ wait i) → Reach P L (Less s) s
       by (inl w) = other (mover T (g .sensible .tree) (view T s) inv (w .0) (w .0) p (omega arith) (w .1))

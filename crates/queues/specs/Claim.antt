@@ -9,7 +9,18 @@ use Rattle.queues.specs.Rows.{Place, idle, W1, U1, U4, R1, R7, writes, reads, 
 
 -- nothing has happened yet
 abbrev pub fresh-lock : Lock
-fresh-lock = record { place = λ p. idle; nx = λ h. 0; st = λ h. 0; tl = λ k. 0; ar = λ c. 0; de = λ c. 0; at = λ k a. 0; lo = λ k. 0; hi = λ k. 0 }
+fresh-lock =
+    record {
+      place = λ p. idle;
+      nx = λ h. 0;
+      st = λ h. 0;
+      tl = λ k. 0;
+      ar = λ c. 0;
+      de = λ c. 0;
+      at = λ k a. 0;
+      lo = λ k. 0;
+      hi = λ k. 0;
+    }
 
 -- what a plan says besides its tree
 pub record Sensible (P : ℕ) (L : Plan) : Type 0 where
@@ -24,10 +35,14 @@ pub record Sensible (P : ℕ) (L : Plan) : Type 0 where
 pub data Jobs (P : ℕ) (L : Plan) : Lock → Type 0 where
   start : Jobs P L fresh-lock
   stepped : (s : Lock) (p : ℕ) → On (L .tree .top p) 1 → Jobs P L s → Jobs P L (row L s p (s .place p))
-  asked-write : (s : Lock) (p : ℕ) → On (L .tree .top p) 1 → s .place p ≡ idle → Jobs P L s → Jobs P L (go s p (W1 (L .tree .top p)))
+  asked-write : (s : Lock) (p : ℕ) → On (L .tree .top p) 1 → s .place p ≡ idle → Jobs P L s
+      → Jobs P L (go s p (W1 (L .tree .top p)))
   asked-read : (s : Lock) (p : ℕ) → s .place p ≡ idle → Jobs P L s → Jobs P L (go s p R1)
-  left-write : (s : Lock) (p : ℕ) → s .place p ≡ writes → Jobs P L s → Jobs P L (go s p (cond (leb (L .tree .top p) 1) U4 (U1 (L .tree .top p))))
+  left-write : (s : Lock) (p : ℕ) → s .place p ≡ writes → Jobs P L s
+      → Jobs P L (go s p (cond (leb (L .tree .top p) 1) U4 (U1 (L .tree .top p))))
   left-read : (s : Lock) (p : ℕ) → On P p → s .place p ≡ reads → Jobs P L s → Jobs P L (go s p R7)
 
 abbrev pub Exclusion : Type 0
-Exclusion = (P : ℕ) (L : Plan) → Sensible P L → (s : Lock) → Jobs P L s → (p q : ℕ) → On (L .tree .top p) 1 → On (L .tree .top q) 1 → s .place p ≡ writes → (s .place q ≡ writes → p ≡ q) × (s .place q ≡ reads → ⊥)
+Exclusion =
+    (P : ℕ) (L : Plan) → Sensible P L → (s : Lock) → Jobs P L s → (p q : ℕ) → On (L .tree .top p) 1
+    → On (L .tree .top q) 1 → s .place p ≡ writes → (s .place q ≡ writes → p ≡ q) × (s .place q ≡ reads → ⊥)

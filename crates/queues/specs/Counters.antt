@@ -85,7 +85,9 @@ abbrev pub F : ℕ
 F = 2 ^ 62
 
 pub record Count (P TR : ℕ) (s : Tally) (c : ℕ) : Type 0 where
-  pub sum : s .ar c ≡ F * s .bit c + s .de c + total P (λ p. tries (s .load p) c) + total P (λ p. reads (s .load p) c) + total P (λ p. clears (s .load p) c)
+  pub sum : s .ar c
+      ≡ F * s .bit c + s .de c + total P (λ p. tries (s .load p) c) + total P (λ p. reads (s .load p) c)
+      + total P (λ p. clears (s .load p) c)
   pub small : s .de c + total P (λ p. reads (s .load p) c) + total P (λ p. clears (s .load p) c) ≤ TR
   pub bits : s .bit c ≤ 1
   pub stands : s .bit c ≡ 1 → (p : ℕ) × Marks (s .gate p) c

@@ -5,9 +5,10 @@ use mathlib.Core.Logic.{_⊎_, _≢_}
 use mathlib.Core.Bool.{Bool, true, false, cond}
 use lib.Dec.{eqb, leb, ltb}
 use Rattle.queues.specs.Machine.{Tree, On, Phase, out, fresh, clean, ready, link, wait, hold, give, State, Inv}
-
 pub use Rattle.places.specs.declared.place.Place.{Place}
-pub use Rattle.places.specs.declared.place.Place.the-variants.{Idle as idle, W1, W2, W3, W4, W5, W6, W7, W8, W9, U1, U2, U3, U4, U5, U6, U7, U8, U9, U10, R1, R2, R3, R4, R5, R6, R7, Writer as writes, Reader as reads}
+pub use Rattle.places.specs.declared.place.Place.the-variants.{Idle as idle, W1, W2, W3, W4, W5, W6, W7, W8, W9, U1}
+pub use Rattle.places.specs.declared.place.Place.the-variants.{U2, U3, U4, U5, U6, U7, U8, U9, U10, R1, R2, R3, R4}
+pub use Rattle.places.specs.declared.place.Place.the-variants.{R5, R6, R7, Writer as writes, Reader as reads}
 
 abbrev pub WAIT : ℕ
 WAIT = 2 ^ 32
@@ -40,31 +41,119 @@ unfoldable pub upd : {A : Type 0} → (ℕ → A) → ℕ → A → ℕ → A
 upd f a v b = cond (eqb b a) v (f b)
 
 abbrev pub go : Lock → ℕ → Place → Lock
-go s p f = record { place = upd (s .place) p f; nx = s .nx; st = s .st; tl = s .tl; ar = s .ar; de = s .de; at = s .at; lo = s .lo; hi = s .hi }
+go s p f =
+    record {
+      place = upd (s .place) p f;
+      nx = s .nx;
+      st = s .st;
+      tl = s .tl;
+      ar = s .ar;
+      de = s .de;
+      at = s .at;
+      lo = s .lo;
+      hi = s .hi;
+    }
 
 abbrev pub put-nx : Lock → ℕ → ℕ → Lock
-put-nx s h v = record { place = s .place; nx = upd (s .nx) h v; st = s .st; tl = s .tl; ar = s .ar; de = s .de; at = s .at; lo = s .lo; hi = s .hi }
+put-nx s h v =
+    record {
+      place = s .place;
+      nx = upd (s .nx) h v;
+      st = s .st;
+      tl = s .tl;
+      ar = s .ar;
+      de = s .de;
+      at = s .at;
+      lo = s .lo;
+      hi = s .hi;
+    }
 
 abbrev pub put-st : Lock → ℕ → ℕ → Lock
-put-st s h v = record { place = s .place; nx = s .nx; st = upd (s .st) h v; tl = s .tl; ar = s .ar; de = s .de; at = s .at; lo = s .lo; hi = s .hi }
+put-st s h v =
+    record {
+      place = s .place;
+      nx = s .nx;
+      st = upd (s .st) h v;
+      tl = s .tl;
+      ar = s .ar;
+      de = s .de;
+      at = s .at;
+      lo = s .lo;
+      hi = s .hi;
+    }
 
 -- W3: the node x joins the queue k
 abbrev pub join : Lock → ℕ → ℕ → Lock
-join s k x = record { place = s .place; nx = s .nx; st = s .st; tl = upd (s .tl) k x; ar = s .ar; de = s .de; at = upd (s .at) k (upd (s .at k) (s .hi k) x); lo = s .lo; hi = upd (s .hi) k (suc (s .hi k)) }
+join s k x =
+    record {
+      place = s .place;
+      nx = s .nx;
+      st = s .st;
+      tl = upd (s .tl) k x;
+      ar = s .ar;
+      de = s .de;
+      at = upd (s .at) k (upd (s .at k) (s .hi k) x);
+      lo = s .lo;
+      hi = upd (s .hi) k (suc (s .hi k));
+    }
 
 -- the head of the queue k goes
 abbrev pub drop : Lock → ℕ → Lock
-drop s k = record { place = s .place; nx = s .nx; st = s .st; tl = s .tl; ar = s .ar; de = s .de; at = s .at; lo = upd (s .lo) k (suc (s .lo k)); hi = s .hi }
+drop s k =
+    record {
+      place = s .place;
+      nx = s .nx;
+      st = s .st;
+      tl = s .tl;
+      ar = s .ar;
+      de = s .de;
+      at = s .at;
+      lo = upd (s .lo) k (suc (s .lo k));
+      hi = s .hi;
+    }
 
 -- and nothing is left
 abbrev pub free : Lock → ℕ → Lock
-free s k = record { place = s .place; nx = s .nx; st = s .st; tl = upd (s .tl) k 0; ar = s .ar; de = s .de; at = s .at; lo = upd (s .lo) k (suc (s .lo k)); hi = s .hi }
+free s k =
+    record {
+      place = s .place;
+      nx = s .nx;
+      st = s .st;
+      tl = upd (s .tl) k 0;
+      ar = s .ar;
+      de = s .de;
+      at = s .at;
+      lo = upd (s .lo) k (suc (s .lo k));
+      hi = s .hi;
+    }
 
 abbrev pub put-ar : Lock → ℕ → ℕ → Lock
-put-ar s c v = record { place = s .place; nx = s .nx; st = s .st; tl = s .tl; ar = upd (s .ar) c v; de = s .de; at = s .at; lo = s .lo; hi = s .hi }
+put-ar s c v =
+    record {
+      place = s .place;
+      nx = s .nx;
+      st = s .st;
+      tl = s .tl;
+      ar = upd (s .ar) c v;
+      de = s .de;
+      at = s .at;
+      lo = s .lo;
+      hi = s .hi;
+    }
 
 abbrev pub put-de : Lock → ℕ → ℕ → Lock
-put-de s c v = record { place = s .place; nx = s .nx; st = s .st; tl = s .tl; ar = s .ar; de = upd (s .de) c v; at = s .at; lo = s .lo; hi = s .hi }
+put-de s c v =
+    record {
+      place = s .place;
+      nx = s .nx;
+      st = s .st;
+      tl = s .tl;
+      ar = s .ar;
+      de = upd (s .de) c v;
+      at = s .at;
+      lo = s .lo;
+      hi = s .hi;
+    }
 
 module _ (L : Plan) (s : Lock) (p : ℕ) where
   abbrev pub x : ℕ → ℕ
@@ -90,16 +179,22 @@ module _ (L : Plan) (s : Lock) (p : ℕ) where
   row (W2 i) = go (put-st s (x i) WAIT) p (W3 i)
   row (W3 i) = go (join s (k i) (x i)) p (cond (eqb (s .tl (k i)) 0) (W6 i) (W4 i (s .tl (k i))))
   row (W4 i t) = go (put-nx s t (x i)) p (W5 i)
-  row (W5 i) = cond (eqb (s .st (x i)) WAIT) s (cond (leb (s .st (x i)) 1000) (go s p writes) (cond (eqb (s .st (x i)) (tell i)) (go s p (W6 i)) s))
+  row (W5 i) =
+      cond (eqb (s .st (x i)) WAIT) s
+      (cond (leb (s .st (x i)) 1000) (go s p writes) (cond (eqb (s .st (x i)) (tell i)) (go s p (W6 i)) s))
   row (W6 i) = go (put-st s (x i) 0) p (cond (leb 2 i) (W1 (pred i)) (W7 0))
   row (W7 n) = go (put-ar s n (s .ar n + 2 ^ 62)) p (next n (W8 0) W7)
   row (W8 n) = go s p (W9 n (s .ar n))
   row (W9 n a) = go s p (cond (eqb a (2 ^ 62 + s .de n)) (next n writes W8) (W8 n))
   row (U1 i) = go s p (U2 i (s .st (x i)))
-  row (U2 i n) = go s p (cond (eqb (s .nx (x i)) 0) (cond (leb i 2) U4 (U1 (pred i))) (cond (ltb n (L .cap p i)) (U3 i (s .nx (x i)) (suc n)) (cond (leb i 2) U4 (U1 (pred i)))))
+  row (U2 i n) =
+      go s p
+      (cond (eqb (s .nx (x i)) 0) (cond (leb i 2) U4 (U1 (pred i)))
+      (cond (ltb n (L .cap p i)) (U3 i (s .nx (x i)) (suc n)) (cond (leb i 2) U4 (U1 (pred i)))))
   row (U3 i t n) = go (drop (put-st s t n) (k i)) p (done i)
   row U4 = go s p (U5 (s .st (x 1)))
-  row (U5 n) = go s p (cond (eqb (s .nx (x 1)) 0) (U6 0) (cond (ltb n (L .cap p 1)) (U3 1 (s .nx (x 1)) (suc n)) (U6 0)))
+  row (U5 n) =
+      go s p (cond (eqb (s .nx (x 1)) 0) (U6 0) (cond (ltb n (L .cap p 1)) (U3 1 (s .nx (x 1)) (suc n)) (U6 0)))
   row (U6 n) = go (put-de s n 0) p (U7 n (s .de n))
   row (U7 n a) = go (put-ar s n (s .ar n - (2 ^ 62 + a))) p (next n (U8 1) U6)
   row (U8 i) = go s p (cond (eqb (s .nx (x i)) 0) (U10 i) (U9 i (s .nx (x i))))
@@ -199,7 +294,9 @@ Sound L st p (W1 i) = Counts L st p (suc i)
 Sound L st p (W2 i) = Counts L st p (suc i)
 Sound L st p (W3 i) = (st (L .tree .node p i) ≡ WAIT) × Counts L st p (suc i)
 Sound L st p (W4 i t) = (st (L .tree .node p i) ≡ WAIT) × Counts L st p (suc i)
-Sound L st p (W5 i) = On (L .tree .top p) i × Counts L st p (suc i) × ((st (L .tree .node p i) ≡ WAIT) ⊎ ((st (L .tree .node p i) ≡ tell i) ⊎ Counts L st p 1))
+Sound L st p (W5 i) =
+    On (L .tree .top p) i × Counts L st p (suc i)
+    × ((st (L .tree .node p i) ≡ WAIT) ⊎ ((st (L .tree .node p i) ≡ tell i) ⊎ Counts L st p 1))
 Sound L st p (W6 i) = Counts L st p (suc i)
 Sound L st p (W7 n) = Counts L st p 1
 Sound L st p (W8 n) = Counts L st p 1

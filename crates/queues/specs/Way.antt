@@ -7,7 +7,8 @@ use mathlib.Core.List.{List, [], _∷_}
 use lib.Dec.{leb}
 use Rattle.queues.specs.Machine.{Tree, On}
 use Rattle.queues.specs.Counters.{F}
-use Rattle.queues.specs.Rows.{Place, idle, W1, W2, W3, W4, W5, W6, W7, W8, W9, U1, U2, U3, U4, U5, U6, U7, U8, U9, U10, R1, R2, R3, R4, R5, R6, R7, writes, reads, WAIT, tell, Plan, Lock, go, row}
+use Rattle.queues.specs.Rows.{Place, idle, W1, W2, W3, W4, W5, W6, W7, W8, W9, U1, U2, U3, U4, U5, U6, U7, U8, U9}
+use Rattle.queues.specs.Rows.{U10, R1, R2, R3, R4, R5, R6, R7, writes, reads, WAIT, tell, Plan, Lock, go, row}
 use Rattle.places.specs.Records.{recorded}
 use Rattle.queues.specs.Claim.{Sensible, Jobs}
 
@@ -34,7 +35,10 @@ Accepts L s p (W1 i) = On (L .tree .top p) i
 Accepts L s p (W2 i) = On (L .tree .top p) i
 Accepts L s p (W3 i) = On (L .tree .top p) i
 Accepts L s p (W4 i t) = On (L .tree .top p) i × Node (L .tree) t
-Accepts L s p (W5 i) = On (L .tree .top p) i × ((s .st (L .tree .node p i) ≡ WAIT) ⊎ ((s .st (L .tree .node p i) ≡ tell i) ⊎ (s .st (L .tree .node p i) ≤ 1000)))
+Accepts L s p (W5 i) =
+    On (L .tree .top p) i
+    × ((s .st (L .tree .node p i) ≡ WAIT)
+    ⊎ ((s .st (L .tree .node p i) ≡ tell i) ⊎ (s .st (L .tree .node p i) ≤ 1000)))
 Accepts L s p (W6 i) = On (L .tree .top p) i
 Accepts L s p (W7 k) = k < L .counters
 Accepts L s p (W8 k) = k < L .counters
@@ -126,4 +130,6 @@ pub record Apt (P : ℕ) (L : Plan) : Type 0 where
   pub less : L .TR < F
 
 abbrev pub WayBack : Type 0
-WayBack = (P : ℕ) (L : Plan) → Apt P L → (s : Lock) → Jobs P L s → (ms : List Move) × Plays P L s ms × AtRest P L (play L s ms)
+WayBack =
+    (P : ℕ) (L : Plan) → Apt P L → (s : Lock) → Jobs P L s
+    → (ms : List Move) × Plays P L s ms × AtRest P L (play L s ms)

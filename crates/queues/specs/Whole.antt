@@ -4,8 +4,10 @@ use mathlib.Core.Path.{_≡_}
 use mathlib.Core.Bool.{cond}
 use lib.Dec.{eqb, leb}
 use Rattle.queues.specs.Machine.{Tree, On}
-use Rattle.queues.specs.Rows.{Place, idle, W1, W2, W3, W4, W5, W6, W7, W8, W9, U1, U2, U3, U4, U5, U6, U7, U8, U9, U10, R1, R2, R3, R4, R5, R6, R7, writes, reads, WAIT, Plan, Lock, at-level, Fine, upd}
-use Rattle.queues.specs.Counters.{Load, none, trying, inside, leaving, carrying, clearing, Gate, shut, raising, checking, reading, wide, lowering, Tally, Counted}
+use Rattle.queues.specs.Rows.{Place, idle, W1, W2, W3, W4, W5, W6, W7, W8, W9, U1, U2, U3, U4, U5, U6, U7, U8, U9}
+use Rattle.queues.specs.Rows.{U10, R1, R2, R3, R4, R5, R6, R7, writes, reads, WAIT, Plan, Lock, at-level, Fine, upd}
+use Rattle.queues.specs.Counters.{Load, none, trying, inside, leaving, carrying, clearing, Gate, shut, raising}
+use Rattle.queues.specs.Counters.{checking, reading, wide, lowering, Tally, Counted}
 
 -- how far a place has the writer's bits; w is the STATUS that W5 reads
 abbrev pub gateOf : Place → ℕ → Gate
@@ -106,7 +108,8 @@ abbrev pub gate : Tree → Lock → ℕ → Gate
 gate T s p = gateOf (s .place p) (s .st (T .node p (at-level (s .place p))))
 
 abbrev pub tally : Plan → Lock → (ℕ → ℕ) → Tally
-tally L s bit = record { load = λ p. loadOf (L .home p) (s .place p); gate = gate (L .tree) s; ar = s .ar; de = s .de; bit = bit }
+tally L s bit =
+    record { load = λ p. loadOf (L .home p) (s .place p); gate = gate (L .tree) s; ar = s .ar; de = s .de; bit = bit }
 
 pub record Safe (P : ℕ) (L : Plan) (s : Lock) (bit : ℕ → ℕ) : Type 0 where
   pub fine : Fine L s
