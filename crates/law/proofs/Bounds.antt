@@ -39,10 +39,10 @@ module _ (t : Tree) (G : Geometry t) (s : Lock) (bit : ℕ → ℕ) (v : Safe (t
   pub at-U7 : (p k n : ℕ) → On P p → k < counters t → s .place p ≡ U7 k n → (2 ^ 62 + n ≤ s .ar k) × (n ≤ 1000000)
   at-U7 p k n on l e =
       let w : Count P (t .shape .«reader_threshold») (tally (machine-plan t) s bit) k = v .counted .each k l in
-      let b : bit k ≡ 1 = v .counted .marked p k l (rw (gate-at (machine-plan t .tree) s p (U7 k n) e) (omega arith)) in
+      let b : bit k ≡ 1 =
+      v .counted .marked p k l (rw (gate-at (machine-plan t .tree) s p (U7 k n) e) (omega arith)) in
       let z : clears (loads p) k ≡ n = rw e (pick-same k n) in
-      let t = total-part P (λ q. clears (loads q) k) p on in
-      omega (arith, G .limit)
+      let t = total-part P (λ q. clears (loads q) k) p on in omega (arith, G .limit)
 
   pub at-R2 : (p : ℕ) → On P p → s .place p ≡ R2 → 1 ≤ s .ar (machine-plan t .home p)
   at-R2 p on e =

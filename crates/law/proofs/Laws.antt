@@ -25,15 +25,15 @@ pub record Hung (P E : ℕ) (ps : List ℕ) (lev own : ℕ → ℕ) (T : Tree) :
 module _ (P E N : ℕ) (ps : List ℕ) (lev own : ℕ → ℕ) (T : Tree) (h : Rooted E N ps lev) (u : Hung P E ps lev own T)
   where
     pub elem-on : (p i : ℕ) → On (T .top p) i → Above E lev (T .top p - i) (own p) (T .elem p i)
-    elem-on p i o =
-        rw (u .elem p i o)
+    elem-on p i o = rw (u .elem p i o)
         (climb E N ps lev h (T .top p - i) (own p) (u .on p (u .rank p i o))
         (omega (arith, u .level p (u .rank p i o))))
 
     pub elem-level : (p i : ℕ) → On (T .top p) i → lev (T .elem p i) ≡ i
     elem-level p i o = omega (arith, elem-on p i o, u .level p (u .rank p i o))
 
-    pub elem-up : (p i j : ℕ) → On (T .top p) i → On (T .top p) j → j ≤ i → T .elem p j ≡ climbed ps (i - j) (T .elem p i)
+    pub elem-up : (p i j : ℕ) → On (T .top p) i → On (T .top p) j → j ≤ i
+        → T .elem p j ≡ climbed ps (i - j) (T .elem p i)
     elem-up p i j a b l =
         let e : T .top p - j ≡ (i - j) + (T .top p - i) = omega arith in
         rw (u .elem p i a, u .elem p j b, e) (above-more ps (i - j) (T .top p - i) (own p))
@@ -66,16 +66,8 @@ module _ (P E N : ℕ) (ps : List ℕ) (lev own : ℕ → ℕ) (T : Tree) (h : R
 
     pub below : (p r i : ℕ) → On (T .top p) i → On (T .top r) i → T .node p i ≡ T .node r i
         → (p ≡ r) ⊎ ((i < T .top p) × (i < T .top r) × (T .elem p (suc i) ≡ T .elem r (suc i)))
-    below p r i a b e =
-        grind (
-          arith,
-          node-cases p i a,
-          node-cases r i b,
-          elem-on p (suc i),
-          elem-on r (suc i),
-          u .rank p i a,
-          u .rank r i b,
-        )
+    below p r i a b e = grind
+        (arith, node-cases p i a, node-cases r i b, elem-on p (suc i), elem-on r (suc i), u .rank p i a, u .rank r i b)
 
     pub shared : (p r i : ℕ) → On (T .top p) i → i < T .top p → i < T .top r → T .elem p (suc i) ≡ T .elem r (suc i)
         → T .node p i ≡ T .node r i

@@ -199,18 +199,16 @@ module _ (t : Tree) (G : Geometry t) (ws : Words) (rs : List Record) (s : Lock) 
     adds-ar : (f : Place) (k w y : ℕ) → k < counters t → access-of t p f ≡ Some (access (counter-home t k) 3 (Add w))
         → (s .ar k + w) % 2 ^ 64 ≡ y → (g : Place) → Goes (next-of t p f (s .ar k)) g
         → Stepped t s p f (stepped-from t ws rs p (Some f)) (go (put-ar s k y) p g)
-    adds-ar f k w y l e m g n =
-        carried f (counter-home t k) 3 (Add w) e (G .counter-in k l) refl (s .ar k) (h .arrives k l) g n (put-ar s k y)
-        refl
+    adds-ar f k w y l e m g n = carried f (counter-home t k) 3 (Add w) e (G .counter-in k l) refl (s .ar k)
+        (h .arrives k l) g n (put-ar s k y) refl
         (shows-ar t ws rs s h (G .counter-one) k ((ws .word (counter-home t k) 3 + w) % 2 ^ 64) y
         (ap (λ z. (z + w) % 2 ^ 64) (h .arrives k l) ∙ m))
 
     swaps-de : (f : Place) (k : ℕ) → k < counters t → access-of t p f ≡ Some (access (counter-home t k) 4 (Swap 0))
         → (g : Place) → Goes (next-of t p f (s .de k)) g
         → Stepped t s p f (stepped-from t ws rs p (Some f)) (go (put-de s k 0) p g)
-    swaps-de f k l e g n =
-        carried f (counter-home t k) 4 (Swap 0) e (G .counter-in k l) refl (s .de k) (h .departs k l) g n (put-de s k 0)
-        refl (shows-de t ws rs s h (G .counter-one) k 0 0 refl)
+    swaps-de f k l e g n = carried f (counter-home t k) 4 (Swap 0) e (G .counter-in k l) refl (s .de k) (h .departs k l)
+        g n (put-de s k 0) refl (shows-de t ws rs s h (G .counter-one) k 0 0 refl)
 
     goes-down : (i : ℕ) → On (own-level t p) i → Goes (level-done t p i) (done L s p i)
     goes-down i o = goes-done (own-level t p) i (o .upto)
@@ -229,15 +227,13 @@ module _ (t : Tree) (G : Geometry t) (ws : Words) (rs : List Record) (s : Lock) 
             subst (Stepped t s p (W5 i) (stepped-from t ws rs p (Some (W5 i)))) (sym z) (reads-st (W5 i) i refl at g n)
 
         by : (s .st (x i) ≡ WAIT) ⊎ ((s .st (x i) ≡ tell i) ⊎ Counts L (s .st) p 1) → Lifts (W5 i)
-        by (inl z) =
-            subst (Stepped t s p (W5 i) (stepped-from t ws rs p (Some (W5 i))))
+        by (inl z) = subst (Stepped t s p (W5 i) (stepped-from t ws rs p (Some (W5 i))))
             (sym (w5-waits s (go s p writes) (go s p (W6 i)) (s .st (x i)) i z))
             (carries (W5 i) (x i) 1 Get refl at refl (s .st (x i)) (h .statuses (x i) at) (W5 i)
             (goes-wait t p i (s .st (x i)) z) s e
             (λ q ne. refl)
             (shows-stay t ws rs s h p on (W5 i) e))
-        by (inr (inl z)) =
-            moves-on (W6 i) (goes-told t p i (s .st (x i)) (o .from) z)
+        by (inr (inl z)) = moves-on (W6 i) (goes-told t p i (s .st (x i)) (o .from) z)
             (w5-told s (go s p writes) (go s p (W6 i)) (s .st (x i)) i z)
         by (inr (inr z)) =
             let m : s .st (x i) ≤ 1000 = z i (o .from) (o .upto) in
@@ -256,40 +252,33 @@ module _ (t : Tree) (G : Geometry t) (ws : Words) (rs : List Record) (s : Lock) 
         by : (b : Bool) → eqb (s .tl (q i)) (x i) ≡ b
             → Stepped t s p (U10 i) (stepped-from t ws rs p (Some (U10 i)))
             (cond b (go (free s (q i)) p (done L s p i)) (go s p (U8 i)))
-        by true z =
-            carried (U10 i) (q i) 2 (Cas (x i) 0) refl at refl (s .tl (q i)) d (done L s p i)
+        by true z = carried (U10 i) (q i) 2 (Cas (x i) 0) refl at refl (s .tl (q i)) d (done L s p i)
             (rw z (goes-down i (rg (U10 i) e))) (free s (q i)) refl
             (subst
             (λ b. Shows t (cond b (storing ws (q i) 2 0) ws) rs (free s (q i)))
             (sym (ap (λ t. eqb t (x i)) d ∙ z))
             (shows-free t ws rs s h (q i)))
-        by false z =
-            carried (U10 i) (q i) 2 (Cas (x i) 0) refl at refl (s .tl (q i)) d (U8 i) (rw z (Waiting, refl)) s refl
-            (subst (λ b. Shows t (cond b (storing ws (q i) 2 0) ws) rs s) (sym (ap (λ t. eqb t (x i)) d ∙ z)) h)
+        by false z = carried (U10 i) (q i) 2 (Cas (x i) 0) refl at refl (s .tl (q i)) d (U8 i) (rw z (Waiting, refl)) s
+            refl (subst (λ b. Shows t (cond b (storing ws (q i) 2 0) ws) rs s) (sym (ap (λ t. eqb t (x i)) d ∙ z)) h)
 
     -- every step
     pub lifted : (f : Place) → s .place p ≡ f → Lifts f ⊎ NoMore f
     lifted idle e = inr ((λ z. let y : _≡_ {A = ℕ} 0 1 = cc in omega arith), refl)
-    lifted (W1 i) e =
-        inl
+    lifted (W1 i) e = inl
         (carried (W1 i) (x i) 0 (Put 0) refl (re (W1 i) e) refl 0 refl _ (Moved, refl) _ refl
         (shows-nx t ws rs s h (x i) 0))
-    lifted (W2 i) e =
-        inl
+    lifted (W2 i) e = inl
         (carried (W2 i) (x i) 1 (Put WAIT) refl (re (W2 i) e) refl 0 refl _ (Moved, refl) _ refl
         (shows-st t ws rs s h (x i) WAIT))
-    lifted (W3 i) e =
-        inl
+    lifted (W3 i) e = inl
         (carried (W3 i) (q i) 2 (Swap (x i)) refl (re (W3 i) e) refl (s .tl (q i)) (h .tails (q i) (re (W3 i) e)) _
         (both (eqb (s .tl (q i)) 0) _ _ _ _ (Moved, refl) (Moved, refl)) _ refl
         (shows-join t ws rs s h (q i) (x i)))
-    lifted (W4 i y) e =
-        inl
+    lifted (W4 i y) e = inl
         (carried (W4 i y) y 0 (Put (x i)) refl (re (W4 i y) e) refl 0 refl _ (Moved, refl) _ refl
         (shows-nx t ws rs s h y (x i)))
     lifted (W5 i) e = inl (lift-W5 i e)
-    lifted (W6 i) e =
-        inl
+    lifted (W6 i) e = inl
         (carried (W6 i) (x i) 1 (Put 0) refl (re (W6 i) e) refl 0 refl _
         (both (leb 2 i) _ _ _ _ (Moved, ap (λ j. moves (W1 j)) (sub-one i)) (Moved, refl)) _ refl
         (shows-st t ws rs s h (x i) 0))
@@ -325,10 +314,9 @@ module _ (t : Tree) (G : Geometry t) (ws : Words) (rs : List Record) (s : Lock) 
         (cond (leb i 2) U4 (U1 (pred i))))))
         (sym z)
         (goes-U2 i n (s .nx (x i)) c)))
-    lifted (U3 i y n) e =
-        inl
-        (carried (U3 i y n) y 1 (Put n) refl (re (U3 i y n) e) refl 0 refl _ (goes-down i (rg (U3 i y n) e .0)) _
-        refl (shows-drop t (storing ws y 1 n) rs (put-st s y n) (shows-st t ws rs s h y n) (q i)))
+    lifted (U3 i y n) e = inl
+        (carried (U3 i y n) y 1 (Put n) refl (re (U3 i y n) e) refl 0 refl _ (goes-down i (rg (U3 i y n) e .0)) _ refl
+        (shows-drop t (storing ws y 1 n) rs (put-st s y n) (shows-st t ws rs s h y n) (q i)))
     lifted U4 e = inl (reads-st U4 1 refl (re U4 e) _ (Moved, refl))
     lifted (U5 n) e =
         inl (reads-nx (U5 n) 1 refl (re (U5 n) e) _ (goes-U5 n (s .nx (x 1)) (t .shape .«writer_threshold» - 1)))
@@ -341,44 +329,36 @@ module _ (t : Tree) (G : Geometry t) (ws : Words) (rs : List Record) (s : Lock) 
         (goes-next (counters t) k U6 _ _ (Moved, refl)))
     lifted (U8 i) e =
         inl (reads-nx (U8 i) i refl (re (U8 i) e) _ (both (eqb (s .nx (x i)) 0) _ _ _ _ (Moved, refl) (Moved, refl)))
-    lifted (U9 i y) e =
-        inl
-        (carried (U9 i y) y 1 (Put (tell i)) refl (re (U9 i y) e) refl 0 refl _ (goes-down i (rg (U9 i y) e .0)) _
-        refl
+    lifted (U9 i y) e = inl
+        (carried (U9 i y) y 1 (Put (tell i)) refl (re (U9 i y) e) refl 0 refl _ (goes-down i (rg (U9 i y) e .0)) _ refl
         (shows-drop t (storing ws y 1 (tell i)) rs (put-st s y (tell i)) (shows-st t ws rs s h y (tell i))
         (q i)))
     lifted (U10 i) e = inl (lift-U10 i e)
-    lifted R1 e =
-        inl
+    lifted R1 e = inl
         (adds-ar R1 c 1 (suc (s .ar c)) c-in (ap (λ y. Some (access y 3 (Add 1))) own-is)
         (omega (arith, small t G s bit v c c-in)) _
         (both (ltb (s .ar c) (L .TR)) _ _ _ _ (Entered, refl) (Moved, refl)))
-    lifted R2 e =
-        inl
+    lifted R2 e = inl
         (adds-ar R2 c (minus 1) (pred (s .ar c)) c-in (ap (λ y. Some (access y 3 (Add (minus 1)))) own-is)
         (omega (arith, small t G s bit v c c-in, at-R2 t G s bit v p on e)) _ (Moved, refl))
-    lifted R3 e =
-        inl
+    lifted R3 e = inl
         (carried R3 (counter-home t c) 3 Get (ap (λ y. Some (access y 3 Get)) own-is) own-at refl (s .ar c)
         (h .arrives c c-in) _
         (both (ltb (s .ar c) (L .TR)) _ _ _ _ (Moved, refl)
         (both (leb write-bit (s .ar c)) _ _ _ _ (Waiting, refl) (Moved, refl)))
         s refl h)
-    lifted R4 e =
-        inl
+    lifted R4 e = inl
         (carried R4 (element-home t 1) 2 Get refl (re R4 e) refl (s .tl (q 1))
         (h .tails (element-home t 1) (re R4 e) ∙ ap (s .tl) (sym (G .root p on))) _
         (both (eqb (s .tl (q 1)) 0) _ _ _ _ (Moved, refl) (Waiting, refl)) s refl h)
     lifted R5 e = inl (swaps-de R5 c c-in (ap (λ y. Some (access y 4 (Swap 0))) own-is) _ (Moved, refl))
-    lifted (R6 n) e =
-        inl
+    lifted (R6 n) e = inl
         (adds-ar (R6 n) c (minus n) (s .ar c - n) c-in (ap (λ y. Some (access y 3 (Add (minus n)))) own-is)
         (omega (arith, small t G s bit v c c-in, at-R6 t G s bit v p n on e)) _ (Moved, refl))
-    lifted R7 e =
-        inl
+    lifted R7 e = inl
         (carried R7 (counter-home t c) 4 (Add 1) (ap (λ y. Some (access y 4 (Add 1))) own-is) own-at refl (s .de c)
         (h .departs c c-in) _ (Free, refl) _ refl
-        (shows-de t ws rs s h (G .counter-one) c ((ws .word (counter-home t c) 4 + 1) % 2 ^ 64)
-        (suc (s .de c)) (omega (arith, h .departs c c-in, small t G s bit v c c-in))))
+        (shows-de t ws rs s h (G .counter-one) c ((ws .word (counter-home t c) 4 + 1) % 2 ^ 64) (suc (s .de c))
+        (omega (arith, h .departs c c-in, small t G s bit v c c-in))))
     lifted writes e = inr ((λ z. let y : _≡_ {A = ℕ} 0 1 = cc in omega arith), refl)
     lifted reads e = inr ((λ z. let y : _≡_ {A = ℕ} 0 1 = cc in omega arith), refl)

@@ -48,15 +48,13 @@ module _ (t : Tree) (G : Geometry t) (ws : Words) (rs : List Record) (s : Lock) 
       G .apt .sensible .tree .no-zero (o .rank) (o .lvl) (o .on) (sym (o .is) ∙ (sym (last-is k l) ∙ e))
 
   empty : (k : ℕ) → s .tl k ≡ 0 → s .lo k ≡ s .hi k
-  empty k e =
-      ⊎-elim
+  empty k e = ⊎-elim
       (λ (z : s .lo k ≡ s .hi k). z)
       (λ (z : s .lo k ≡ s .hi k → ⊥). absurd (full k (omega (arith, inv .order k)) e))
       (cases-eq (s .lo k) (s .hi k))
 
   some : (k : ℕ) → s .tl k ≢ 0 → s .lo k < s .hi k
-  some k e =
-      ⊎-elim
+  some k e = ⊎-elim
       (λ (z : s .lo k ≡ s .hi k). absurd (e (inv .empty k z)))
       (λ (z : s .lo k ≡ s .hi k → ⊥). omega (arith, inv .order k))
       (cases-eq (s .lo k) (s .hi k))
@@ -80,8 +78,7 @@ module _ (t : Tree) (G : Geometry t) (ws : Words) (rs : List Record) (s : Lock) 
       (n .more) (w .is) (n .is ∙ sym (n .target))
 
   frees : (i : ℕ) → s .place p ≡ U10 i → Traced (row L s p (U10 i)) (adds t ws p h (U10 i))
-  frees i e =
-      subst
+  frees i e = subst
       (λ x.
       Traced (row L s p (U10 i)) (record {
         joined = h .joined;
@@ -114,8 +111,7 @@ module _ (t : Tree) (G : Geometry t) (ws : Words) (rs : List Record) (s : Lock) 
           traces-free (s .at) (s .lo) (s .hi) h tr k (inv .order k) (node-home t p i) (omega (arith, w .some)) (w .is)
 
   waits : (i : ℕ) → Traced (row L s p (W5 i)) h
-  waits i =
-      by (eqb (s .st (node-home t p i)) WAIT) (leb (s .st (node-home t p i)) 1000)
+  waits i = by (eqb (s .st (node-home t p i)) WAIT) (leb (s .st (node-home t p i)) 1000)
       (eqb (s .st (node-home t p i)) (tell i))
     where
       by : (a b c : Bool) → Traced (cond a s (cond b (go s p writes) (cond c (go s p (W6 i)) s))) h
@@ -128,8 +124,7 @@ module _ (t : Tree) (G : Geometry t) (ws : Words) (rs : List Record) (s : Lock) 
   traced idle e = tr
   traced (W1 i) e = tr
   traced (W2 i) e = tr
-  traced (W3 i) e =
-      subst
+  traced (W3 i) e = subst
       (λ x.
       Traced (row L s p (W3 i)) (record {
         joined = more (h .joined) (queue-home t p i) (node-home t p i);
@@ -137,8 +132,8 @@ module _ (t : Tree) (G : Geometry t) (ws : Words) (rs : List Record) (s : Lock) 
         gone = h .gone;
       }))
       (sym (tail-is i (ranged t G s bit v p on (W3 i) e)))
-      (traces-join (s .at) (s .lo) (s .hi) h tr (queue-home t p i) (inv .order (queue-home t p i))
-      (node-home t p i) (s .tl (queue-home t p i)) (empty (queue-home t p i)) (some (queue-home t p i)))
+      (traces-join (s .at) (s .lo) (s .hi) h tr (queue-home t p i) (inv .order (queue-home t p i)) (node-home t p i)
+      (s .tl (queue-home t p i)) (empty (queue-home t p i)) (some (queue-home t p i)))
   traced (W4 i t′) e = tr
   traced (W5 i) e = waits i
   traced (W6 i) e = tr

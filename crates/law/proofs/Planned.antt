@@ -12,7 +12,8 @@ use Rattle.std.proofs.shelf.Ways.{tells}
 use Rattle.plan.specs.declared.plan.Plan.{Plan}
 use Rattle.plan.specs.declared.shape.Shape.{Shape}
 use Rattle.plan.specs.Shapes.{parent, level, within, every, parent-ok, rank-ok, thresholds-ok}
-use Rattle.plan.specs.Trees.{Tree, tree-of, counter-home, counters, element-at, element-home, level-of, level-threshold}
+use Rattle.plan.specs.Trees.{Tree, tree-of, counter-home, counters, element-at, element-home, level-of}
+use Rattle.plan.specs.Trees.{level-threshold}
 use Rattle.plan.specs.Trees.{node-home, own-counter, own-element, own-level, queue-home, threshold}
 use Rattle.plan.specs.Trees.{parents-right, ranks-right, sizes-right, thresholds-right}
 use Rattle.plan.proofs.Every.{every-at}

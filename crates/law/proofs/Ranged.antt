@@ -33,8 +33,7 @@ fits-ranged t p idle r = refl
 fits-ranged t p (W1 i) r = from-on 1 (own-level t p) i (r .from) (r .upto)
 fits-ranged t p (W2 i) r = from-on 1 (own-level t p) i (r .from) (r .upto)
 fits-ranged t p (W3 i) r = from-on 1 (own-level t p) i (r .from) (r .upto)
-fits-ranged t p (W4 i h) r =
-    and-from _ _ (from-on 1 (own-level t p) i (r .0 .from) (r .0 .upto))
+fits-ranged t p (W4 i h) r = and-from _ _ (from-on 1 (own-level t p) i (r .0 .from) (r .0 .upto))
     (from-on 1 (homes t) h (r .1 .from) (r .1 .upto))
 fits-ranged t p (W5 i) r = from-on 1 (own-level t p) i (r .from) (r .upto)
 fits-ranged t p (W6 i) r = from-on 1 (own-level t p) i (r .from) (r .upto)
@@ -43,16 +42,14 @@ fits-ranged t p (W8 k) r = lt-ltb k (counters t) r
 fits-ranged t p (W9 k n) r = lt-ltb k (counters t) r
 fits-ranged t p (U1 i) r = from-on 2 (own-level t p) i (r .0) (r .1)
 fits-ranged t p (U2 i n) r = from-on 2 (own-level t p) i (r .0) (r .1)
-fits-ranged t p (U3 i h n) r =
-    and-from _ _ (from-on 1 (own-level t p) i (r .0 .from) (r .0 .upto))
+fits-ranged t p (U3 i h n) r = and-from _ _ (from-on 1 (own-level t p) i (r .0 .from) (r .0 .upto))
     (from-on 1 (homes t) h (r .1 .from) (r .1 .upto))
 fits-ranged t p U4 r = refl
 fits-ranged t p (U5 n) r = refl
 fits-ranged t p (U6 k) r = lt-ltb k (counters t) r
 fits-ranged t p (U7 k n) r = lt-ltb k (counters t) r
 fits-ranged t p (U8 i) r = from-on 1 (own-level t p) i (r .from) (r .upto)
-fits-ranged t p (U9 i h) r =
-    and-from _ _ (from-on 1 (own-level t p) i (r .0 .from) (r .0 .upto))
+fits-ranged t p (U9 i h) r = and-from _ _ (from-on 1 (own-level t p) i (r .0 .from) (r .0 .upto))
     (from-on 1 (homes t) h (r .1 .from) (r .1 .upto))
 fits-ranged t p (U10 i) r = from-on 1 (own-level t p) i (r .from) (r .upto)
 fits-ranged t p R1 r = refl
@@ -97,8 +94,7 @@ module _ (t : Tree) (G : Geometry t) (s : Lock) (bit : ℕ → ℕ) (v : Safe (t
       subst (On (homes t)) (sym (z .target ∙ o .is)) (node-any (o .rank) (o .lvl) (o .on))
 
   pub ranged : (p : ℕ) → On (t .shape .ranks) p → (f : Place) → s .place p ≡ f → Ranged t p f
-  ranged p on f e =
-      by f (phase-at T s p f e) (subst (InRange (T .top p)) (phase-at T s p f e) (inv .range p))
+  ranged p on f e = by f (phase-at T s p f e) (subst (InRange (T .top p)) (phase-at T s p f e) (inv .range p))
       (subst (Sound L (s .st) p) e (v .fine .sound p)) (subst (Within (counters t)) e (v .within p))
     where
       by : (f : Place) → phase T s p ≡ phaseOf f (s .st (T .node p (at-level f)))

@@ -32,8 +32,7 @@ module _ (t : Tree) (G : Geometry t) (s : Lock) (bit : ℕ → ℕ) (v : Safe (t
   idle-at p i o = all p (G .apt .sensible .ranks p (omega arith))
 
   no-tail : (k : ℕ) → s .tl k ≡ 0
-  no-tail k =
-      ⊎-elim
+  no-tail k = ⊎-elim
       (λ (z : s .lo k ≡ s .hi k). v .fine .queues .empty k z)
       (λ (z : s .lo k ≡ s .hi k → ⊥).
       let h = v .fine .queues .holder k (omega (arith, v .fine .queues .order k)) in
@@ -44,8 +43,7 @@ module _ (t : Tree) (G : Geometry t) (s : Lock) (bit : ℕ → ℕ) (v : Safe (t
       (cases-eq (s .lo k) (s .hi k))
 
   closed : (p c : ℕ) → Marks (gate T s p) c → ⊥
-  closed p c m =
-      ⊎-elim
+  closed p c m = ⊎-elim
       (λ (z : gate T s p ≡ shut). subst (λ x. Marks x c) z m)
       (λ (z : (level (T .top p) (phase T s p) ≡ 1) × On (T .top p) 1).
       subst (λ x. Marks x c) (gate-at T s p idle (idle-at p 1 (z .1))) m)
@@ -56,8 +54,7 @@ module _ (t : Tree) (G : Geometry t) (s : Lock) (bit : ℕ → ℕ) (v : Safe (t
 
   zero-sum : (f : Load → ℕ → ℕ) (c : ℕ) → f Counters.none c ≡ 0
       → total P (λ p. f (loadOf (machine-plan t .home p) (s .place p)) c) ≡ 0
-  zero-sum f c e =
-      total-same P
+  zero-sum f c e = total-same P
       (λ _. 0)
       (λ p. f (loadOf (machine-plan t .home p) (s .place p)) c)
       (λ q a b. ap (λ l. f l c) (load-of q a b) ∙ e) ∙ total-zero P

@@ -69,9 +69,8 @@ pub record Holds (t : Tree) (ws : Words) (rs : List Record) (w : Presence) (h : 
 
 -- and after one of them, with the lock that comes next
 abbrev pub Kept : Tree → Words → List Record → Presence → History → Call → Outcome → Lock → (ℕ → ℕ) → Type 0
-Kept t ws rs w h c o s bit =
-    Holds t (o .words) (o .records) (told w c (o .answer)) (written-down t ws rs h c (o .answer)) s bit
-    × Fair (o .answer)
+Kept t ws rs w h c o s bit = Holds t (o .words) (o .records) (told w c (o .answer))
+    (written-down t ws rs h c (o .answer)) s bit × Fair (o .answer)
 
 abbrev pub Some-kept : Tree → Words → List Record → Presence → History → Call → Outcome → Type 0
 Some-kept t ws rs w h c o = (s : Lock) × (bit : ℕ → ℕ) × Kept t ws rs w h c o s bit
@@ -138,25 +137,21 @@ module _ (t : Tree) (G : Geometry t) (ws : Words) (rs : List Record) (w : Presen
 
   -- a step that is not refused
   abbrev next-bit : ℕ → ℕ → ℕ
-  next-bit p =
-      bits P L (G .apt .sensible .tree) (G .apt .sensible .small) (G .apt .sensible .cap) (G .apt .sensible .ranks)
-      (G .apt .sensible .root) (G .apt .sensible .homes) s bit (k .safe) (s .place p)
+  next-bit p = bits P L (G .apt .sensible .tree) (G .apt .sensible .small) (G .apt .sensible .cap)
+      (G .apt .sensible .ranks) (G .apt .sensible .root) (G .apt .sensible .homes) s bit (k .safe) (s .place p)
 
   step-kept : (p : ℕ) → On P p → (o : Outcome) → Stepped t s p (s .place p) o (row L s p (s .place p))
       → Kept t ws rs w h (Step p) o (row L s p (s .place p)) (next-bit p)
-  step-kept p on o z =
-      subst
+  step-kept p on o z = subst
       (λ a.
       Holds t (o .words) (o .records) (told w (Step p) a) (written-down t ws rs h (Step p) a)
       (row L s p (s .place p)) (next-bit p) × Fair a)
       (sym (z .says)) (
         record {
-          safe =
-              safe-row P L (g .tree) (g .small) (g .cap) (g .ranks) (g .root) (g .homes) s bit (k .safe) p
+          safe = safe-row P L (g .tree) (g .small) (g .cap) (g .ranks) (g .root) (g .homes) s bit (k .safe) p
               (G .apt .all p on) (s .place p) refl;
           shows = z .shows;
-          link =
-              split p
+          link = split p
               (λ q.
               Link (row L s p (s .place p) .place q) (w .role q)
               (cond (eqb q p && is-entered (z .answer)) true (w .inside q)))
@@ -166,13 +161,11 @@ module _ (t : Tree) (G : Geometry t) (ws : Words) (rs : List Record) (w : Presen
               (z .follows)
               (linked t p (w .role p) (w .inside p) (s .place p) (z .given) (k .link p))))
               (λ q ne. rw (ne-eqb q p ne, z .there q ne) (k .link q));
-          ranked =
-              split p
+          ranked = split p
               (λ q. cond (eqb q p && is-entered (z .answer)) true (w .inside q) ≡ true → On P q)
               (λ _. on)
               (λ q ne. rw (ne-eqb q p ne) (k .ranked q));
-          rest =
-              split p
+          rest = split p
               (λ q.
               cond (eqb q p && is-free (z .answer)) true (w .idle q) ≡ true
               → row L s p (s .place p) .place q ≡ idle)
@@ -180,20 +173,17 @@ module _ (t : Tree) (G : Geometry t) (ws : Words) (rs : List Record) (w : Presen
               (subst (Rests (w .idle p)) (z .follows)
               (rested t p (w .idle p) (s .place p) (z .given) (k .rest p))))
               (λ q ne. rw (ne-eqb q p ne, z .there q ne) (k .rest q));
-          idles =
-              split p
+          idles = split p
               (λ q.
               row L s p (s .place p) .place q ≡ idle
               → cond (eqb q p && is-free (z .answer)) true (w .idle q) ≡ true)
               (rw (eq-eqb p p refl, z .here)
-              (subst (Frees (w .idle p)) (z .follows)
-              (freed t p (w .idle p) (s .place p) (z .given))))
+              (subst (Frees (w .idle p)) (z .follows) (freed t p (w .idle p) (s .place p) (z .given))))
               (λ q ne. rw (ne-eqb q p ne, z .there q ne) (k .idles q));
-          trace =
-              subst
+          trace = subst
               (λ (x : Option Place).
-              Traces (row L s p (s .place p) .at) (row L s p (s .place p) .lo)
-              (row L s p (s .place p) .hi) (adds-from t ws p h x))
+              Traces (row L s p (s .place p) .at) (row L s p (s .place p) .lo) (row L s p (s .place p) .hi)
+              (adds-from t ws p h x))
               (sym (shown p on))
               (traced t G ws rs s bit (k .safe) (k .shows) p on h (k .trace) (s .place p) refl);
         },
@@ -205,23 +195,42 @@ module _ (t : Tree) (G : Geometry t) (ws : Words) (rs : List Record) (w : Presen
 
   -- the code's step of a known rank is the row of the place that its record shows
   stepped-is : (p : ℕ) → On P p → stepped t ws rs p ≡ stepped-from t ws rs p (Some (s .place p))
-  stepped-is p on =
-      gates (roomy t ws rs) (within 1 P p) (stepped-from t ws rs p (parsed t p (record-at rs p)))
+  stepped-is p on = gates (roomy t ws rs) (within 1 P p) (stepped-from t ws rs p (parsed t p (record-at rs p)))
       (refused ws rs UnknownRank) _ has-room (in-range p on) ∙ ap (stepped-from t ws rs p) (shown p on)
 
   kept-step : (p : ℕ) → Some-kept t ws rs w h (Step p) (called t ws rs (Step p))
   kept-step p = by (within 1 P p) refl
     where
       by : (b : Bool) → within 1 P p ≡ b → Some-kept t ws rs w h (Step p) (stepped t ws rs p)
-      by false e =
-          stays (Step p) (stepped t ws rs p) UnknownRank refl
+      by false e = stays (Step p) (stepped t ws rs p) UnknownRank refl
           (shut-gate (roomy t ws rs) (within 1 P p) _ _ _ has-room e)
-      by true e = subst (Some-kept t ws rs w h (Step p)) (sym (stepped-is p (on-of p e))) (⊎-elim (λ (z : Stepped t s p (s .place p) (stepped-from t ws rs p (Some (s .place p))) (row L s p (s .place p))). (row L s p (s .place p), next-bit p, step-kept p (on-of p e) (stepped-from t ws rs p (Some (s .place p))) z)) (λ (z : (standing-at (s .place p) ≢ UnderWay) × (stepped-from t ws rs p (Some (s .place p)) ≡ refused ws rs NotUnderWay)). stays (Step p) (stepped-from t ws rs p (Some (s .place p))) NotUnderWay refl (z .1)) (lifted t G ws rs s bit (k .safe) (k .shows) p (on-of p e) (s .place p) refl))
+      by true e = subst (Some-kept t ws rs w h (Step p)) (sym (stepped-is p (on-of p e)))
+          (⊎-elim
+          (λ (z : Stepped t s p (s .place p) (stepped-from t ws rs p (Some (s .place p)))
+          (row L s p (s .place p))). (
+            row L s p (s .place p),
+            next-bit p,
+            step-kept p (on-of p e) (stepped-from t ws rs p (Some (s .place p))) z,
+          ))
+          (λ (z : (standing-at (s .place p) ≢ UnderWay)
+          × (stepped-from t ws rs p (Some (s .place p)) ≡ refused ws rs NotUnderWay)).
+          stays (Step p) (stepped-from t ws rs p (Some (s .place p))) NotUnderWay refl (z .1))
+          (lifted t G ws rs s bit (k .safe) (k .shows) p (on-of p e) (s .place p) refl))
 
   -- a step of a rank that is under way is done, and it is the row: what a chosen list of calls builds on
   pub does-row : (p : ℕ) → On P p → standing-at (s .place p) ≡ UnderWay
       → Kept t ws rs w h (Step p) (called t ws rs (Step p)) (row L s p (s .place p)) (next-bit p)
-  does-row p on u = subst (λ o. Kept t ws rs w h (Step p) o (row L s p (s .place p)) (next-bit p)) (sym (stepped-is p on)) (⊎-elim (λ (z : Stepped t s p (s .place p) (stepped-from t ws rs p (Some (s .place p))) (row L s p (s .place p))). step-kept p on (stepped-from t ws rs p (Some (s .place p))) z) (λ (z : (standing-at (s .place p) ≢ UnderWay) × (stepped-from t ws rs p (Some (s .place p)) ≡ refused ws rs NotUnderWay)). absurd (z .0 u)) (lifted t G ws rs s bit (k .safe) (k .shows) p on (s .place p) refl))
+  does-row p on u = subst
+      (λ o. Kept t ws rs w h (Step p) o (row L s p (s .place p)) (next-bit p))
+      (sym (stepped-is p on))
+      (⊎-elim
+      (λ (z : Stepped t s p (s .place p) (stepped-from t ws rs p (Some (s .place p)))
+      (row L s p (s .place p))).
+      step-kept p on (stepped-from t ws rs p (Some (s .place p))) z)
+      (λ (z : (standing-at (s .place p) ≢ UnderWay)
+      × (stepped-from t ws rs p (Some (s .place p)) ≡ refused ws rs NotUnderWay)).
+      absurd (z .0 u))
+      (lifted t G ws rs s bit (k .safe) (k .shows) p on (s .place p) refl))
 
   -- a rank sent to a place by an ask or a leave
   sent : (c : Call) (p : ℕ) → On P p → (f : Place) (a : Answer) → Safe P L (go s p f) bit → f ≢ idle
@@ -235,23 +244,17 @@ module _ (t : Tree) (G : Geometry t) (ws : Words) (rs : List Record) (w : Presen
     record {
       safe = v;
       shows = shows-go t ws rs s (k .shows) p on f;
-      link =
-          split p
+      link = split p
           (λ q. Link (upd (s .place) p f q) (noted w c a .role q) (noted w c a .inside q))
           (rw (upd-same (s .place) p f) here)
           (λ q ne. rw (upd-other (s .place) p f q ne, there q ne .0, there q ne .1) (k .link q));
       ranked =
-          split p
-          (λ q. noted w c a .inside q ≡ true → On P q)
-          (λ _. on)
-          (λ q ne. rw (there q ne .1) (k .ranked q));
-      rest =
-          split p
+          split p (λ q. noted w c a .inside q ≡ true → On P q) (λ _. on) (λ q ne. rw (there q ne .1) (k .ranked q));
+      rest = split p
           (λ q. noted w c a .idle q ≡ true → upd (s .place) p f q ≡ idle)
           (λ z. absurd (true≢false (sym z ∙ up)))
           (λ q ne. rw (upd-other (s .place) p f q ne, there q ne .2) (k .rest q));
-      idles =
-          split p
+      idles = split p
           (λ q. upd (s .place) p f q ≡ idle → noted w c a .idle q ≡ true)
           (λ z. absurd (off (sym (upd-same (s .place) p f) ∙ z)))
           (λ q ne. rw (upd-other (s .place) p f q ne, there q ne .2) (k .idles q));
@@ -262,8 +265,7 @@ module _ (t : Tree) (G : Geometry t) (ws : Words) (rs : List Record) (w : Presen
 
   -- a call that touches no word, of a known rank, is what it does at the place that the record shows
   turn-is : (p : ℕ) → On P p → (f : Place → Turn) → turn-of t rs p f ≡ f (s .place p)
-  turn-is p on f =
-      gates (leb P (length rs)) (within 1 P p) (turn-from rs f (parsed t p (record-at rs p)))
+  turn-is p on f = gates (leb P (length rs)) (within 1 P p) (turn-from rs f (parsed t p (record-at rs p)))
       (unchanged rs UnknownRank) _ enough (in-range p on) ∙ ap (turn-from rs f) (shown p on)
 
   no-turn : (p : ℕ) → within 1 P p ≡ false → (f : Place → Turn) → turn-of t rs p f ≡ unchanged rs UnknownRank
@@ -298,15 +300,13 @@ module _ (t : Tree) (G : Geometry t) (ws : Words) (rs : List Record) (w : Presen
   one-of p on = G .apt .all p on
 
   not-rest : (p : ℕ) (f : Place) → s .place p ≡ f → f ≢ idle → w .idle p ≡ false
-  not-rest p f e ne =
-      ⊎-elim
+  not-rest p f e ne = ⊎-elim
       (λ (z : w .idle p ≡ true). absurd (ne (sym e ∙ k .rest p z)))
       (λ (z : w .idle p ≡ false). z)
       (cases-bool (w .idle p))
 
   kept-ask-write : (p : ℕ) → Some-kept t ws rs w h (AskWrite p) (called t ws rs (AskWrite p))
-  kept-ask-write p =
-      asks (AskWrite p) p (W1 (own-level t p)) refl
+  kept-ask-write p = asks (AskWrite p) p (W1 (own-level t p)) refl
       (λ on e.
       sent (AskWrite p) p on (W1 (own-level t p)) Asked
       (safe-ask-write P L (g .tree) (g .small) (g .cap) (g .ranks) (g .root) (g .homes) s bit (k .safe) p
@@ -321,12 +321,10 @@ module _ (t : Tree) (G : Geometry t) (ws : Words) (rs : List Record) (w : Presen
       g = G .apt .sensible
 
   kept-ask-read : (p : ℕ) → Some-kept t ws rs w h (AskRead p) (called t ws rs (AskRead p))
-  kept-ask-read p =
-      asks (AskRead p) p R1 refl
+  kept-ask-read p = asks (AskRead p) p R1 refl
       (λ on e.
       sent (AskRead p) p on R1 Asked
-      (safe-ask-read P L (g .tree) (g .small) (g .cap) (g .ranks) (g .root) (g .homes) s bit (k .safe) p
-      e)
+      (safe-ask-read P L (g .tree) (g .small) (g .cap) (g .ranks) (g .root) (g .homes) s bit (k .safe) p e)
       (λ z. let y : _≡_ {A = ℕ} 0 1 = cc in omega arith)
       (rw (eq-eqb p p refl) (was p idle e, refl))
       (rw (eq-eqb p p refl))
@@ -339,13 +337,12 @@ module _ (t : Tree) (G : Geometry t) (ws : Words) (rs : List Record) (w : Presen
   -- a writer that leaves, and a reader
   leave-writes : (p : ℕ) → On P p → s .place p ≡ writes
       → Kept t ws rs w h (Leave p) (with-words ws (turned rs p (exit-of t p) Leaving)) (go s p (exit-of t p)) bit
-  leave-writes p on e =
-      sent (Leave p) p on (exit-of t p) Leaving
+  leave-writes p on e = sent (Leave p) p on (exit-of t p) Leaving
       (subst
       (λ f. Safe P L (go s p f) bit)
       exit
-      (safe-leave-write P L (g .tree) (g .small) (g .cap) (g .ranks) (g .root) (g .homes) s bit (k .safe)
-      p e))
+      (safe-leave-write P L (g .tree) (g .small) (g .cap) (g .ranks) (g .root) (g .homes) s bit (k .safe) p
+      e))
       (exit-off (leb 2 (own-level t p)) (own-level t p))
       (rw (eq-eqb p p refl) (out-of (leb 2 (own-level t p)) (own-level t p) (w .role p)))
       (not-rest p writes e (λ z. let y : _≡_ {A = ℕ} 0 1 = cc in omega arith)) refl
@@ -359,8 +356,7 @@ module _ (t : Tree) (G : Geometry t) (ws : Words) (rs : List Record) (w : Presen
 
   leave-reads : (p : ℕ) → On P p → s .place p ≡ reads
       → Kept t ws rs w h (Leave p) (with-words ws (turned rs p R7 Leaving)) (go s p R7) bit
-  leave-reads p on e =
-      sent (Leave p) p on R7 Leaving
+  leave-reads p on e = sent (Leave p) p on R7 Leaving
       (safe-leave-read P L (g .tree) (g .small) (g .cap) (g .ranks) (g .root) (g .homes) s bit (k .safe) p on e)
       (λ z. let y : _≡_ {A = ℕ} 0 1 = cc in omega arith)
       (rw (eq-eqb p p refl) refl)
@@ -395,16 +391,14 @@ module _ (t : Tree) (G : Geometry t) (ws : Words) (rs : List Record) (w : Presen
   -- a leave of a rank that is in is done: with `does-row`, what a chosen list of calls builds on
   pub does-leave-write : (p : ℕ) → On P p → s .place p ≡ writes
       → Kept t ws rs w h (Leave p) (called t ws rs (Leave p)) (go s p (exit-of t p)) bit
-  does-leave-write p on e =
-      subst
+  does-leave-write p on e = subst
       (λ x. Kept t ws rs w h (Leave p) (with-words ws x) (go s p (exit-of t p)) bit)
       (sym (left-is p on ∙ ap (λ f. left-at t rs p (standing-at f)) e))
       (leave-writes p on e)
 
   pub does-leave-read : (p : ℕ) → On P p → s .place p ≡ reads
       → Kept t ws rs w h (Leave p) (called t ws rs (Leave p)) (go s p R7) bit
-  does-leave-read p on e =
-      subst
+  does-leave-read p on e = subst
       (λ x. Kept t ws rs w h (Leave p) (with-words ws x) (go s p R7) bit)
       (sym (left-is p on ∙ ap (λ f. left-at t rs p (standing-at f)) e))
       (leave-reads p on e)
@@ -485,8 +479,7 @@ module _ (t : Tree) (G : Geometry t) (ws : Words) (rs : List Record) (e : laid-a
   end-history = history t (laid t ws rs) nothing calls
 
   pub at-end : Some-holds t (end .words) (end .records) eye end-history
-  at-end =
-      holds-ran t G calls (laid-words t ws rs) (laid-records t ws rs) nobody nothing
+  at-end = holds-ran t G calls (laid-words t ws rs) (laid-records t ws rs) nobody nothing
       (fresh-lock, (λ c. 0), start t G ws rs e)
 
   pub end-alone : Alone eye

@@ -116,8 +116,7 @@ module _ (t : Tree) (ws : Words) (rs : List Record) (s : Lock) (v : Shows t ws r
       record {
         ranks = rw (length-set rs (p - 1) (recorded f)) (v .ranks);
         room = v .room;
-        places =
-            split p
+        places = split p
             (λ q.
             On (t .shape .ranks) q
             → getD (set rs (p - 1) (recorded f)) (q - 1) (recorded idle) ≡ recorded (upd (s .place) p f q))
@@ -126,8 +125,7 @@ module _ (t : Tree) (ws : Words) (rs : List Record) (s : Lock) (v : Shows t ws r
             (getD-set-same rs (p - 1) (recorded f) (recorded idle) (omega (arith, v .ranks))))
             (λ q ne on′.
             rw (upd-other (s .place) p f q ne)
-            (getD-set-other rs (p - 1) (q - 1) (recorded f) (recorded idle) (omega arith)
-            ∙ v .places q on′));
+            (getD-set-other rs (p - 1) (q - 1) (recorded f) (recorded idle) (omega arith) ∙ v .places q on′));
         nexts = v .nexts;
         statuses = v .statuses;
         tails = v .tails;
@@ -143,8 +141,7 @@ module _ (t : Tree) (ws : Words) (rs : List Record) (s : Lock) (v : Shows t ws r
       record {
         ranks = w .ranks;
         room = v .room;
-        places =
-            split p
+        places = split p
             (λ q.
             On (t .shape .ranks) q
             → getD (set rs (p - 1) (recorded f)) (q - 1) (recorded idle) ≡ recorded (s .place q))

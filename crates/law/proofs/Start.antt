@@ -35,18 +35,15 @@ shows-cleared t G ws rs e =
     record {
       ranks = omega (arith, length-append (replicate n (recorded idle)) (drop n rs), l);
       room = leb-true (homes t) (ws .count) (z .1);
-      places =
-          λ p on.
+      places = λ p on.
           List·getD-append (replicate n (recorded idle)) (drop n rs) (recorded idle) (p - 1) (omega (arith, l))
           ∙ getD-replicate n (p - 1) (recorded idle) (recorded idle) (omega arith);
       nexts = λ h on. zeros (homes t) h 0 (ws .word h 0) on (omega arith);
       statuses = λ h on. zeros (homes t) h 1 (ws .word h 1) on (omega arith);
       tails = λ h on. zeros (homes t) h 2 (ws .word h 2) on (omega arith);
-      arrives =
-          λ c k.
+      arrives = λ c k.
           zeros (homes t) (counter-home t c) 3 (ws .word (counter-home t c) 3) (G .counter-in c k) (omega arith);
-      departs =
-          λ c k.
+      departs = λ c k.
           zeros (homes t) (counter-home t c) 4 (ws .word (counter-home t c) 4) (G .counter-in c k) (omega arith);
     }
 

@@ -21,8 +21,7 @@ turns f (suc n) = turns f n ++ (f n ∷ [])
 
 pub turns-same : (f g : ℕ → ℕ) (n : ℕ) → ((a : ℕ) → a < n → g a ≡ f a) → turns g n ≡ turns f n
 turns-same f g zero e = refl
-turns-same f g (suc n) e =
-    ap (λ (l : List ℕ). l ++ (g n ∷ [])) (turns-same f g n (λ a l. e a (omega arith)))
+turns-same f g (suc n) e = ap (λ (l : List ℕ). l ++ (g n ∷ [])) (turns-same f g n (λ a l. e a (omega arith)))
     ∙ ap (λ x. turns f n ++ (x ∷ [])) (e n (omega arith))
 
 pub turns-length : (f : ℕ → ℕ) (n : ℕ) → length (turns f n) ≡ n
@@ -31,8 +30,7 @@ turns-length f (suc n) = length-append (turns f n) (f n ∷ []) ∙ (let z = tur
 
 pub turns-front : (f : ℕ → ℕ) (m n : ℕ) → m ≤ n → Front (turns f m) (turns f n)
 turns-front f m zero l = let z : m ≡ 0 = omega arith in ([], subst (λ x. turns f 0 ≡ turns f x ++ []) (sym z) refl)
-turns-front f m (suc n) l =
-    ⊎-elim
+turns-front f m (suc n) l = ⊎-elim
     (λ (z : m ≡ suc n).
     ([], subst (λ x. turns f (suc n) ≡ turns f x ++ []) (sym z) (sym (append-nil (turns f (suc n))))))
     (λ (z : m ≡ suc n → ⊥).
@@ -77,22 +75,19 @@ module _ (at : ℕ → ℕ → ℕ) (lo hi : ℕ → ℕ) (h : History) (t : Tra
       })
   traces-join x w empty full =
       record {
-        joined =
-            split k
+        joined = split k
             (λ q. more (h .joined) k x q ≡ turns (upd at k F q) (upd hi k (suc (hi k)) q))
             (rw (eq-eqb k k refl, upd-same at k F, upd-same hi k (suc (hi k)))
             (add F (hi k) (h .joined k) x (t .joined k ∙ sym same) here))
             (λ q ne. rw (ne-eqb q k ne, upd-other at k F q ne, upd-other hi k (suc (hi k)) q ne) (t .joined q));
-        came =
-            split k
+        came = split k
             (λ q.
             cond (eqb w 0) (more (h .came) k x) (h .came) q
             ≡ turns (upd at k F q) (min (suc (lo q)) (upd hi k (suc (hi k)) q)))
             (rw (upd-same at k F, upd-same hi k (suc (hi k)))
             (⊎-elim (λ (z : w ≡ 0). first z) (λ (z : w ≡ 0 → ⊥). later z) (cases-eq w 0)))
             (λ q ne. rw (upd-other at k F q ne, upd-other hi k (suc (hi k)) q ne) (others q ne (eqb w 0)));
-        gone =
-            split k
+        gone = split k
             (λ q. h .gone q ≡ turns (upd at k F q) (lo q))
             (rw (upd-same at k F) (t .gone k ∙ sym (turns-same (at k) F (lo k) (λ a l. below a (omega arith)))))
             (λ q ne. rw (upd-other at k F q ne) (t .gone q));
@@ -143,19 +138,17 @@ module _ (at : ℕ → ℕ → ℕ) (lo hi : ℕ → ℕ) (h : History) (t : Tra
   traces-pass x y l e d =
       record {
         joined = t .joined;
-        came =
-            split k
+        came = split k
             (λ q. more (h .came) k y q ≡ turns (at q) (min (suc (upd lo k (suc (lo k)) q)) (hi q)))
             (rw (eq-eqb k k refl, upd-same lo k (suc (lo k)))
             (count-is (at k) (suc (suc (lo k))) (min (suc (suc (lo k))) (hi k)) (h .came k ++ (y ∷ []))
             (omega arith)
             (add (at k) (suc (lo k)) (h .came k) y
-            (count-is (at k) (min (suc (lo k)) (hi k)) (suc (lo k)) (h .came k)
-            (omega arith) (t .came k))
+            (count-is (at k) (min (suc (lo k)) (hi k)) (suc (lo k)) (h .came k) (omega arith)
+            (t .came k))
             d)))
             (λ q ne. rw (ne-eqb q k ne, upd-other lo k (suc (lo k)) q ne) (t .came q));
-        gone =
-            split k
+        gone = split k
             (λ q. more (h .gone) k x q ≡ turns (at q) (upd lo k (suc (lo k)) q))
             (rw (eq-eqb k k refl, upd-same lo k (suc (lo k))) (add (at k) (lo k) (h .gone k) x (t .gone k) e))
             (λ q ne. rw (ne-eqb q k ne, upd-other lo k (suc (lo k)) q ne) (t .gone q));
@@ -171,15 +164,13 @@ module _ (at : ℕ → ℕ → ℕ) (lo hi : ℕ → ℕ) (h : History) (t : Tra
   traces-free x l e =
       record {
         joined = t .joined;
-        came =
-            split k
+        came = split k
             (λ q. h .came q ≡ turns (at q) (min (suc (upd lo k (suc (lo k)) q)) (hi q)))
             (rw (upd-same lo k (suc (lo k)))
             (count-is (at k) (min (suc (lo k)) (hi k)) (min (suc (suc (lo k))) (hi k)) (h .came k)
             (omega arith) (t .came k)))
             (λ q ne. rw (upd-other lo k (suc (lo k)) q ne) (t .came q));
-        gone =
-            split k
+        gone = split k
             (λ q. more (h .gone) k x q ≡ turns (at q) (upd lo k (suc (lo k)) q))
             (rw (eq-eqb k k refl, upd-same lo k (suc (lo k))) (add (at k) (lo k) (h .gone k) x (t .gone k) e))
             (λ q ne. rw (ne-eqb q k ne, upd-other lo k (suc (lo k)) q ne) (t .gone q));

@@ -51,7 +51,8 @@ onward T G s v d i p l e again =
     (waits-or (s .ph (h .rank)))
 
 pub mover : (T : Tree) → Lawful T → (s : State) → Inv T s → (d i p : ℕ) → i ≤ d → s .ph p ≡ wait i → Mover T s
-mover T G s v zero i p l e = let o : On (T .top p) i = subst (InRange (T .top p)) e (v .range p) in absurd (omega arith)
+mover T G s v zero i p l e =
+    let o : On (T .top p) i = subst (InRange (T .top p)) e (v .range p) in absurd (omega arith)
 mover T G s v (suc d) i p l e = onward T G s v d i p l e (λ j q m w. mover T G s v d j q m w)
 
 -- how many rows lie ahead of a place, on the longest way that does not wait
@@ -133,15 +134,13 @@ module _ (L : Plan) (s : Lock) (p : ℕ) where
   to m s₁ f h = rw (upd-same (s₁ .place) p f) h
 
   done-below : (i m : ℕ) → On N i → 3 * (N - i) + 2 ≤ m → Below m (done L s p i)
-  done-below i m on l =
-      cond-both (eqb i N) idle (U8 (suc i)) (Below m)
+  done-below i m on l = cond-both (eqb i N) idle (U8 (suc i)) (Below m)
       (λ _. omega arith)
       (λ z. let ne : i ≢ N = eqb-false i N z in omega arith)
 
   next-below : (k m : ℕ) (end : Place) (more : ℕ → Place) → (suc k < C → Below m (more (suc k)))
       → (C ≤ suc k → Below m end) → Below m (next L s p k end more)
-  next-below k m end more a b =
-      cond-both (ltb (suc k) C) (more (suc k)) end (Below m)
+  next-below k m end more a b = cond-both (ltb (suc k) C) (more (suc k)) end (Below m)
       (λ z. a (ltb-true (suc k) C z))
       (λ z. b (ltb-false (suc k) C z))
 
@@ -154,8 +153,8 @@ module _ (L : Plan) (s : Lock) (p : ℕ) where
   falls idle a = absurd a
   falls (W1 i) a = to (ahead N C (W1 i)) s (W2 i) (omega arith)
   falls (W2 i) a = to (ahead N C (W2 i)) s (W3 i) (omega arith)
-  falls (W3 i) a =
-      to (ahead N C (W3 i)) s (cond (eqb (s .tl (L .tree .elem p i)) 0) (W6 i) (W4 i (s .tl (L .tree .elem p i))))
+  falls (W3 i) a = to (ahead N C (W3 i)) s
+      (cond (eqb (s .tl (L .tree .elem p i)) 0) (W6 i) (W4 i (s .tl (L .tree .elem p i))))
       (cond-both (eqb (s .tl (L .tree .elem p i)) 0) (W6 i) (W4 i (s .tl (L .tree .elem p i)))
       (Below (ahead N C (W3 i)))
       (λ _. omega arith)
@@ -169,22 +168,18 @@ module _ (L : Plan) (s : Lock) (p : ℕ) where
       let b : (WAIT < tell i) × (1000 < tell i) = tell-big i in
       rw (ne-eqb w WAIT (omega arith), lt-leb w 1000 (omega arith), eq-eqb w (tell i) a)
       (to (ahead N C (W5 i)) s (W6 i) (omega arith))
-  falls (W6 i) a =
-      to (ahead N C (W6 i)) s (cond (leb 2 i) (W1 (pred i)) (W7 0))
+  falls (W6 i) a = to (ahead N C (W6 i)) s (cond (leb 2 i) (W1 (pred i)) (W7 0))
       (cond-both (leb 2 i) (W1 (pred i)) (W7 0) (Below (ahead N C (W6 i)))
       (λ z. omega (arith, leb-true 2 i z))
       (λ _. omega arith))
-  falls (W7 k) a =
-      to (ahead N C (W7 k)) s (next L s p k (W8 0) W7)
+  falls (W7 k) a = to (ahead N C (W7 k)) s (next L s p k (W8 0) W7)
       (next-below k (ahead N C (W7 k)) (W8 0) W7 (λ z. omega arith) (λ z. omega arith))
   falls (W8 k) a = to (ahead N C (W8 k)) s (W9 k (s .ar k)) (omega arith)
-  falls (W9 k n) a =
-      rw (eq-eqb n (2 ^ 62 + s .de k) (a .1))
+  falls (W9 k n) a = rw (eq-eqb n (2 ^ 62 + s .de k) (a .1))
       (to (ahead N C (W9 k n)) s (next L s p k writes W8)
       (next-below k (ahead N C (W9 k n)) writes W8 (λ z. omega arith) (λ z. omega arith)))
   falls (U1 i) a = to (ahead N C (U1 i)) s (U2 i (s .st (L .tree .node p i))) (omega arith)
-  falls (U2 i n) a =
-      to (ahead N C (U2 i n)) s
+  falls (U2 i n) a = to (ahead N C (U2 i n)) s
       (cond (eqb (s .nx (L .tree .node p i)) 0) (cond (leb i 2) U4 (U1 (pred i)))
       (cond (ltb n (L .cap p i)) (U3 i (s .nx (L .tree .node p i)) (suc n))
       (cond (leb i 2) U4 (U1 (pred i)))))
@@ -196,25 +191,22 @@ module _ (L : Plan) (s : Lock) (p : ℕ) where
       (omega arith))
   falls (U3 i t n) a = to (ahead N C (U3 i t n)) s (done L s p i) (done-below i (ahead N C (U3 i t n)) a (omega arith))
   falls U4 a = to (ahead N C U4) s (U5 (s .st (L .tree .node p 1))) (omega arith)
-  falls (U5 n) a =
-      to (ahead N C (U5 n)) s
+  falls (U5 n) a = to (ahead N C (U5 n)) s
       (cond (eqb (s .nx (L .tree .node p 1)) 0) (U6 0)
       (cond (ltb n (L .cap p 1)) (U3 1 (s .nx (L .tree .node p 1)) (suc n)) (U6 0)))
       (choice (ahead N C (U5 n)) (eqb (s .nx (L .tree .node p 1)) 0) (ltb n (L .cap p 1)) (U6 0)
       (U3 1 (s .nx (L .tree .node p 1)) (suc n)) (omega arith) (omega arith))
   falls (U6 k) a = to (ahead N C (U6 k)) s (U7 k (s .de k)) (omega arith)
-  falls (U7 k n) a =
-      to (ahead N C (U7 k n)) s (next L s p k (U8 1) U6)
+  falls (U7 k n) a = to (ahead N C (U7 k n)) s (next L s p k (U8 1) U6)
       (next-below k (ahead N C (U7 k n)) (U8 1) U6 (λ z. omega arith) (λ z. omega arith))
-  falls (U8 i) a =
-      to (ahead N C (U8 i)) s (cond (eqb (s .nx (L .tree .node p i)) 0) (U10 i) (U9 i (s .nx (L .tree .node p i))))
+  falls (U8 i) a = to (ahead N C (U8 i)) s
+      (cond (eqb (s .nx (L .tree .node p i)) 0) (U10 i) (U9 i (s .nx (L .tree .node p i))))
       (cond-both (eqb (s .nx (L .tree .node p i)) 0) (U10 i) (U9 i (s .nx (L .tree .node p i)))
       (Below (ahead N C (U8 i)))
       (λ _. omega arith)
       (λ _. omega arith))
   falls (U9 i t) a = to (ahead N C (U9 i t)) s (done L s p i) (done-below i (ahead N C (U9 i t)) a (omega arith))
-  falls (U10 i) a =
-      rw (eq-eqb (s .tl (L .tree .elem p i)) (L .tree .node p i) (a .1))
+  falls (U10 i) a = rw (eq-eqb (s .tl (L .tree .elem p i)) (L .tree .node p i) (a .1))
       (to (ahead N C (U10 i)) s (done L s p i) (done-below i (ahead N C (U10 i)) (a .0) (omega arith)))
   falls R1 a = absurd a
   falls R2 a = absurd a
@@ -246,8 +238,7 @@ follower T G s v p i e ne = found (v .member k (s .lo k) (omega arith) more)
     hd = v .heads p i on (omega (arith, ap (level (T .top p)) e))
 
     more : suc (s .lo k) < s .hi k
-    more =
-        ⊎-elim
+    more = ⊎-elim
         (λ (z : suc (s .lo k) ≡ s .hi k). absurd (ne (v .tail k (s .lo k) (omega arith) z ∙ hd .is)))
         (λ (z : suc (s .lo k) ≡ s .hi k → ⊥). omega (arith, hd .some))
         (cases-eq (suc (s .lo k)) (s .hi k))
@@ -267,12 +258,10 @@ follower T G s v p i e ne = found (v .member k (s .lo k) (omega arith) more)
         queue = ap (T .elem (m .rank)) (sym same) ∙ m .queue
 
         here : (b : Behind T s (m .rank) i) → s .at (T .elem (m .rank) i) (b .turn) ≡ T .node p i
-        here b =
-            rw (
-              queue,
-              turn-is T G s v k (s .lo k) (m .rank) i queue (omega arith) more
-                  (m .is ∙ ap (T .node (m .rank)) same) b,
-            )
+        here b = rw (
+          queue,
+          turn-is T G s v k (s .lo k) (m .rank) i queue (omega arith) more (m .is ∙ ap (T .node (m .rank)) same) b,
+        )
             (hd .is)
 
         by : (s .ph (m .rank) ≡ wait i) ⊎ ((u : ℕ) × (s .ph (m .rank) ≡ link i u))

@@ -66,22 +66,20 @@ module _ (T : Tree) (G : Lawful T) (s : State) (v : Inv T s) where
   -- two ranks that hold one element have one node there
   pub one-head : (p r i : ℕ) → On (T .top p) i → On (T .top r) i → level (T .top p) (s .ph p) ≤ i
       → level (T .top r) (s .ph r) ≤ i → T .elem p i ≡ T .elem r i → T .node p i ≡ T .node r i
-  one-head p r i on on′ h h′ e = sym (v .heads p i on h .is) ∙ (ap (λ k. s .at k (s .lo k)) e ∙ v .heads r i on′ h′ .is)
+  one-head p r i on on′ h h′ e =
+      sym (v .heads p i on h .is) ∙ (ap (λ k. s .at k (s .lo k)) e ∙ v .heads r i on′ h′ .is)
 
   -- two ranks that hold one element are one rank: down to the leaf
   one-holder-by : (d p r i : ℕ) → i + d ≡ T .top p → On (T .top p) i → On (T .top r) i
       → level (T .top p) (s .ph p) ≤ i → level (T .top r) (s .ph r) ≤ i → T .elem p i ≡ T .elem r i → p ≡ r
-  one-holder-by zero p r i room on on′ h h′ e =
-      ⊎-elim
+  one-holder-by zero p r i room on on′ h h′ e = ⊎-elim
       (λ (q : p ≡ r). q)
       (λ (q : (i < T .top p) × (i < T .top r) × (T .elem p (suc i) ≡ T .elem r (suc i))). absurd (omega arith))
       (G .below p r i on on′ (one-head p r i on on′ h h′ e))
-  one-holder-by (suc d) p r i room on on′ h h′ e =
-      ⊎-elim
+  one-holder-by (suc d) p r i room on on′ h h′ e = ⊎-elim
       (λ (q : p ≡ r). q)
       (λ (q : (i < T .top p) × (i < T .top r) × (T .elem p (suc i) ≡ T .elem r (suc i))).
-      one-holder-by d p r (suc i) (omega arith) (omega arith) (omega arith) (omega arith) (omega arith)
-      (q .2))
+      one-holder-by d p r (suc i) (omega arith) (omega arith) (omega arith) (omega arith) (omega arith) (q .2))
       (G .below p r i on on′ (one-head p r i on on′ h h′ e))
 
   pub one-holder : (p r i : ℕ) → On (T .top p) i → On (T .top r) i → level (T .top p) (s .ph p) ≤ i
@@ -110,8 +108,7 @@ module _ (T : Tree) (G : Lawful T) (s : State) (v : Inv T s) where
 
   -- who uses the node at a turn of a queue
   pub occupant : (k a : ℕ) → s .lo k ≤ a → a < s .hi k → Occupant T s k a
-  occupant k a h h′ =
-      ⊎-elim
+  occupant k a h h′ = ⊎-elim
       (λ (e : a ≡ s .lo k). first e (v .holder k (omega arith)))
       (λ (e : a ≡ s .lo k → ⊥). later a h h′ e)
       (cases-eq a (s .lo k))
@@ -205,7 +202,8 @@ module _ (T : Tree) (G : Lawful T) (s : State) (v : Inv T s) where
           g = asked T s v p (give h i t) e
 
           here : (b : Behind T s r i) → s .at (T .elem r i) (b .turn) ≡ T .node p i
-          here b = rw (queue′, turn-is (T .elem p i) (s .lo (T .elem p i)) r i queue′ (omega arith) more is′ b) (hd .is)
+          here b =
+              rw (queue′, turn-is (T .elem p i) (s .lo (T .elem p i)) r i queue′ (omega arith) more is′ b) (hd .is)
 
           by : (s .ph r ≡ wait i) ⊎ ((u : ℕ) × (s .ph r ≡ link i u)) → Successor T s p i t
           by (inl w) =

@@ -27,8 +27,7 @@ module _ (P : ℕ) (s : Tally) (p c : ℕ) (on : On P p) (load : ℕ → Load) (
     -- a sum at another counter is as it was
     pub away : (w : Load → ℕ → ℕ) (d : ℕ) → w (load p) d ≡ w (s .load p) d
         → total P (λ q. w (load q) d) ≡ total P (λ q. w (s .load q) d)
-    away w d e =
-        total-same P
+    away w d e = total-same P
         (λ q. w (s .load q) d)
         (λ q. w (load q) d)
         (λ q _ _. split p (λ q. w (load q) d ≡ w (s .load q) d) e (λ q a. ap (λ l. w l d) (m .others q a)) q)
@@ -80,8 +79,7 @@ module _ (P C TR : ℕ) (s : Tally) (v : Counted P C TR s) (p c : ℕ) (on : On 
       record { sum = omega (arith, o .sum); small = omega (arith, o .small); bits = o .bits; stands = o .stands }
 
   seen′ : (k : ℕ) → (q n : ℕ) → s .gate q ≡ reading k n → F + de k + total P (λ p. reads (load p) k) ≤ n
-  seen′ =
-      split c
+  seen′ = split c
       (λ k. (q n : ℕ) → s .gate q ≡ reading k n → F + de k + total P (λ p. reads (load p) k) ≤ n)
       (λ q n e. omega (arith, v .seen q c n e, m .fall-reads, moves P s p c on load ar de (m .shift) reads))
       (λ k ne q n e.
@@ -97,8 +95,7 @@ module _ (P C TR : ℕ) (s : Tally) (v : Counted P C TR s) (p c : ℕ) (on : On 
       record {
         each = split c (λ d. d < C → Count P TR s′ d) here there;
         marked = v .marked;
-        kept =
-            λ r d l k.
+        kept = λ r d l k.
             split p
             (λ q. On P q → load q ≢ inside d)
             (λ _. m .outside d)
@@ -171,8 +168,7 @@ module _ (P C TR : ℕ) (cap : TR ≤ F) (s : Tally) (v : Counted P C TR s) (p c
       record {
         each = split c (λ d. d < C → Count P TR e′ d) (λ _. enter-here) enter-there;
         marked = v .marked;
-        kept =
-            λ r d l k.
+        kept = λ r d l k.
             split p
             (λ q. On P q → load q ≢ inside d)
             (λ _ z.
@@ -180,8 +176,7 @@ module _ (P C TR : ℕ) (cap : TR ≤ F) (s : Tally) (v : Counted P C TR s) (p c
             (subst (Marks (s .gate r)) (sym (inside-one c d (sym (m .after) ∙ z)))
             (keeps-marks (s .gate r) d k)))
             (λ q a on′ z. v .kept r d l k q on′ (sym (m .shift .others q a) ∙ z));
-        seen =
-            λ q k n e.
+        seen = λ q k n e.
             split c
             (λ k. s .gate q ≡ reading k n → F + s .de k + total P (λ p. reads (load p) k) ≤ n)
             (λ e. absurd (unmarked q (subst (λ g. Marks g c) (sym e) tt)))

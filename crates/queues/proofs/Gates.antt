@@ -72,18 +72,15 @@ module _ (P C TR : ℕ) (s : Tally) (v : Counted P C TR s) (p k : ℕ) (on : On 
     flipped =
         record {
           each = split k (λ d. d < C → Count P TR s′ d) here there;
-          marked =
-              split p
+          marked = split p
               (λ q. (c : ℕ) → c < C → Marks (s′ .gate q) c → s′ .bit c ≡ 1)
               (m .marks)
               (λ q a c l w. absurd (subst (λ g. Marks g c) (shut-o q a) w));
-          kept =
-              split p
+          kept = split p
               (λ q. (c : ℕ) → c < C → Keeps (s′ .gate q) c → (r : ℕ) → On P r → s′ .load r ≢ inside c)
               (m .keeps)
               (λ q a c l w. absurd (subst (λ g. Keeps g c) (shut-o q a) w));
-          seen =
-              split p
+          seen = split p
               (λ q. (j n : ℕ) → s′ .gate q ≡ reading j n → F + s′ .de j + total P (λ p. reads (s′ .load p) j) ≤ n)
               (m .sees)
               (λ q a j n e. absurd (subst (λ g. Marks g j) (sym e ∙ shut-o q a) tt));
@@ -101,8 +98,7 @@ pub traded : (P C TR : ℕ) (s : Tally) → Counted P C TR s → (p r : ℕ) (ga
     → Counted P C TR (record { load = s .load; gate = gate; ar = s .ar; de = s .de; bit = s .bit })
 traded P C TR s v p r gate m =
     record {
-      each =
-          λ c l.
+      each = λ c l.
           let o = v .each c l in
           record {
             sum = o .sum;
@@ -110,20 +106,17 @@ traded P C TR s v p r gate m =
             bits = o .bits;
             stands = λ z. (r, subst (λ g. Marks g c) (sym (m .takes)) tt);
           };
-      marked =
-          split₂ p r
+      marked = split₂ p r
           (λ q. (c : ℕ) → c < C → Marks (gate q) c → s .bit c ≡ 1)
           (λ c l w. absurd (subst (λ g. Marks g c) (m .gives) w))
           (λ c l w. v .marked p c l (subst (λ g. Marks g c) (sym (m .was)) tt))
           (λ q a b c l w. absurd (subst (λ g. Marks g c) (m .gates q a b ∙ m .alone q a) w));
-      kept =
-          split₂ p r
+      kept = split₂ p r
           (λ q. (c : ℕ) → c < C → Keeps (gate q) c → (x : ℕ) → On P x → s .load x ≢ inside c)
           (λ c l w. absurd (subst (λ g. Keeps g c) (m .gives) w))
           (λ c l w. v .kept p c l (subst (λ g. Keeps g c) (sym (m .was)) tt))
           (λ q a b c l w. absurd (subst (λ g. Keeps g c) (m .gates q a b ∙ m .alone q a) w));
-      seen =
-          split₂ p r
+      seen = split₂ p r
           (λ q. (j n : ℕ) → gate q ≡ reading j n → F + s .de j + total P (λ p. reads (s .load p) j) ≤ n)
           (λ j n e. absurd (subst (λ g. Marks g j) (sym e ∙ m .gives) tt))
           (λ j n e. absurd (subst NotWide (sym (m .takes) ∙ e) tt))

@@ -56,16 +56,14 @@ module _ (T : Tree) (G : Lawful T) (s : State) (v : Inv T s) (p h i t : ℕ) (e 
   lo-less = split (T .elem p i) (λ k. s .lo k ≤ lo k) (omega (arith, c .gone)) (λ k ne. omega (arith, c .stay k ne))
 
   range′ : (q : ℕ) → InRange (T .top q) (ph q)
-  range′ =
-      split₂ p r
+  range′ = split₂ p r
       (λ q. InRange (T .top q) (ph q))
       (c .in-range)
       (rw (c .taker) (omega (arith, rg, n .on)))
       (λ q a b. rw (c .others q a b) (v .range q))
 
   order′ : (k : ℕ) → lo k ≤ s .hi k
-  order′ =
-      split (T .elem p i)
+  order′ = split (T .elem p i)
       (λ k. lo k ≤ s .hi k)
       (omega (arith, c .gone, n .more))
       (λ k ne. omega (arith, c .stay k ne, v .order k))
@@ -74,8 +72,7 @@ module _ (T : Tree) (G : Lawful T) (s : State) (v : Inv T s) (p h i t : ℕ) (e 
   once′ k a b l l′ m m′ q = v .once k a b (omega (arith, lo-less k)) l′ (omega (arith, lo-less k)) m′ q
 
   empty′ : (k : ℕ) → lo k ≡ s .hi k → s .tl k ≡ 0
-  empty′ =
-      split (T .elem p i)
+  empty′ = split (T .elem p i)
       (λ k. lo k ≡ s .hi k → s .tl k ≡ 0)
       (λ z. absurd (omega (arith, c .gone, n .more)))
       (λ k ne z. v .empty k (omega (arith, c .stay k ne)))
@@ -128,8 +125,7 @@ module _ (T : Tree) (G : Lawful T) (s : State) (v : Inv T s) (p h i t : ℕ) (e 
       (v .heads q j on l′)
 
   heads′ : (q j : ℕ) → On (T .top q) j → level (T .top q) (ph q) ≤ j → Heads T s′ q j
-  heads′ =
-      split₂ p r
+  heads′ = split₂ p r
       (λ q. (j : ℕ) → On (T .top q) j → level (T .top q) (ph q) ≤ j → Heads T s′ q j)
       heads-p
       heads-r
@@ -141,13 +137,13 @@ module _ (T : Tree) (G : Lawful T) (s : State) (v : Inv T s) (p h i t : ℕ) (e 
       record { turn = b .turn; low = low (cases-eq (T .elem q j) (T .elem p i)); high = b .high; is = b .is }
     where
       clash : T .elem q j ≡ T .elem p i → b .turn ≢ s .lo (T .elem p i)
-      clash z y =
-          ne
+      clash z y = ne
           (one-owner T G s v q r j i (waits-on T G s v q j w) (n .on) (omega (arith, waits-level T G s v q j w))
           (omega (arith, level-r)) (sym (b .is) ∙ (rw (z, y) (n .is))) .0)
 
       low : (T .elem q j ≡ T .elem p i) ⊎ (T .elem q j ≡ T .elem p i → ⊥) → lo (T .elem q j) ≤ b .turn
-      low (inl z) = let l : s .lo (T .elem p i) ≤ b .turn = rw z at (b .low) in rw (z, c .gone) (omega (arith, clash z))
+      low (inl z) =
+          let l : s .lo (T .elem p i) ≤ b .turn = rw z at (b .low) in rw (z, c .gone) (omega (arith, clash z))
       low (inr z) = rw (c .stay (T .elem q j) z) (b .low)
 
   asks-o : (q : ℕ) → q ≢ r → (f : Phase) → s .ph q ≡ f → Asks T s q f → Asks T s′ q f
@@ -168,8 +164,7 @@ module _ (T : Tree) (G : Lawful T) (s : State) (v : Inv T s) (p h i t : ℕ) (e 
   asks-o q b (give g j u) w o = o
 
   asks′ : (q : ℕ) → Asks T s′ q (ph q)
-  asks′ =
-      split₂ p r
+  asks′ = split₂ p r
       (λ q. Asks T s′ q (ph q))
       (calm-asks T s′ p (ph p) (c .calm))
       (rw (c .taker) tt)
@@ -177,8 +172,7 @@ module _ (T : Tree) (G : Lawful T) (s : State) (v : Inv T s) (p h i t : ℕ) (e 
 
   -- who holds an element other than the one handed over
   holder-o : (k : ℕ) → k ≢ T .elem p i → Holder T s k → Holder T s′ k
-  holder-o k ne o =
-      split₂ p r
+  holder-o k ne o = split₂ p r
       (λ q.
       (j : ℕ) → On (T .top q) j → T .elem q j ≡ k → s .at k (s .lo k) ≡ T .node q j
       → level (T .top q) (s .ph q) ≤ j → Holder T s′ k)
@@ -232,8 +226,7 @@ module _ (T : Tree) (G : Lawful T) (s : State) (v : Inv T s) (p h i t : ℕ) (e 
           record { rank = x; lvl = j; on = on; queue = q; is = rw lo-k is; holds = omega (arith, level-o x a b) }
 
   holder′ : (k : ℕ) → lo k < s .hi k → Holder T s′ k
-  holder′ =
-      split (T .elem p i)
+  holder′ = split (T .elem p i)
       (λ k. lo k < s .hi k → Holder T s′ k)
       (λ _.
       record {
@@ -254,8 +247,7 @@ module _ (T : Tree) (G : Lawful T) (s : State) (v : Inv T s) (p h i t : ℕ) (e 
         on = m .on;
         queue = m .queue;
         is = m .is;
-        waits =
-            split₂ p r
+        waits = split₂ p r
             (λ q. q ≡ m .rank → Waits (ph q) (m .lvl))
             at-p
             at-r

@@ -167,8 +167,7 @@ module _ (P : ℕ) (L : Plan) (g : Apt P L) where
       record {
         bit =
             bits P L (e .tree) (e .small) (e .cap) (e .ranks) (e .root) (e .homes) s (v .bit) (v .safe) (s .place p);
-        safe =
-            safe-row P L (e .tree) (e .small) (e .cap) (e .ranks) (e .root) (e .homes) s (v .bit) (v .safe) p
+        safe = safe-row P L (e .tree) (e .small) (e .cap) (e .ranks) (e .root) (e .homes) s (v .bit) (v .safe) p
             (g .all p on) (s .place p) refl;
       }
 
@@ -177,9 +176,8 @@ module _ (P : ℕ) (L : Plan) (g : Apt P L) where
       let e = g .sensible in
       record {
         bit = v .bit;
-        safe =
-            safe-leave-read P L (e .tree) (e .small) (e .cap) (e .ranks) (e .root) (e .homes) s (v .bit) (v .safe) p
-            on a;
+        safe = safe-leave-read P L (e .tree) (e .small) (e .cap) (e .ranks) (e .root) (e .homes) s (v .bit) (v .safe)
+            p on a;
       }
 
   pub good-leave-write : (s : Lock) → Good P L s → (p : ℕ) → On P p → s .place p ≡ writes
@@ -188,16 +186,14 @@ module _ (P : ℕ) (L : Plan) (g : Apt P L) where
       let e = g .sensible in
       record {
         bit = v .bit;
-        safe =
-            safe-leave-write P L (e .tree) (e .small) (e .cap) (e .ranks) (e .root) (e .homes) s (v .bit) (v .safe) p
-            a;
+        safe = safe-leave-write P L (e .tree) (e .small) (e .cap) (e .ranks) (e .root) (e .homes) s (v .bit) (v .safe)
+            p a;
       }
 
   -- the moves at a known place: what the state after it reaches, the state before it reaches
   pub by-step : (Q : Lock → Type 0) (s : Lock) → Good P L s → (p : ℕ) → On P p → (f : Place) → s .place p ≡ f → Busy f
       → (Good P L (row L s p f) → Reach P L Q (row L s p f)) → Reach P L Q s
-  by-step Q s v p on f e b r =
-      move s (Step p) (accept s v p on (subst Busy (sym e) b))
+  by-step Q s v p on f e b r = move s (Step p) (accept s v p on (subst Busy (sym e) b))
       (subst
       (λ f. (Good P L (row L s p f) → Reach P L Q (row L s p f)) → Reach P L Q (row L s p (s .place p)))
       e
@@ -206,15 +202,13 @@ module _ (P : ℕ) (L : Plan) (g : Apt P L) where
 
   pub by-leave-read : (Q : Lock → Type 0) (s : Lock) → Good P L s → (p : ℕ) → On P p → s .place p ≡ reads
       → (Good P L (go s p R7) → Reach P L Q (go s p R7)) → Reach P L Q s
-  by-leave-read Q s v p on e r =
-      move s (Leave p) (on, subst In (sym e) (omega arith))
+  by-leave-read Q s v p on e r = move s (Leave p) (on, subst In (sym e) (omega arith))
       (subst (λ f. Reach P L Q (go s p (exit L p f))) (sym e) (r (good-leave-read s v p on e)))
 
   pub by-leave-write : (Q : Lock → Type 0) (s : Lock) → Good P L s → (p : ℕ) → On P p → s .place p ≡ writes
       → (Good P L (go s p (cond (leb (T .top p) 1) U4 (U1 (T .top p))))
       → Reach P L Q (go s p (cond (leb (T .top p) 1) U4 (U1 (T .top p))))) → Reach P L Q s
-  by-leave-write Q s v p on e r =
-      move s (Leave p) (on, subst In (sym e) (omega arith))
+  by-leave-write Q s v p on e r = move s (Leave p) (on, subst In (sym e) (omega arith))
       (subst (λ f. Reach P L Q (go s p (exit L p f))) (sym e) (r (good-leave-write s v p on e)))
 
   -- a rank's own number falls, and so does the sum
@@ -232,8 +226,7 @@ module _ (P : ℕ) (L : Plan) (g : Apt P L) where
       Q = Lower P L (λ q. stage-1) (Good P L) s
 
       by : (s .place p ≡ reads) ⊎ (s .place p ≢ reads) → Reach P L Q s
-      by (inl e) =
-          by-leave-read Q s v p on e
+      by (inl e) = by-leave-read Q s v p on e
           (λ w.
           here (go s p R7) (
             w,

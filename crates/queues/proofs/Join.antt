@@ -50,15 +50,13 @@ module _ (T : Tree) (G : Lawful T) (s : State) (v : Inv T s) (p i : ℕ) (e : s 
       G .no-zero (o .rank) (o .lvl) (o .on) (sym (o .is) ∙ (sym (v .tail k a (omega arith) (omega arith)) ∙ z))
 
   bare : s .tl K ≡ 0 → s .lo K ≡ s .hi K
-  bare z =
-      ⊎-elim
+  bare z = ⊎-elim
       (λ (l : s .lo K < s .hi K). absurd (tail-set K l z))
       (λ (l : s .hi K ≤ s .lo K). omega (arith, v .order K))
       (cases-lt (s .lo K) (s .hi K))
 
   full : s .tl K ≢ 0 → s .lo K < s .hi K
-  full z =
-      ⊎-elim
+  full z = ⊎-elim
       (λ (l : s .lo K < s .hi K). l)
       (λ (l : s .hi K ≤ s .lo K). absurd (z (v .empty K (omega (arith, v .order K)))))
       (cases-lt (s .lo K) (s .hi K))
@@ -68,8 +66,7 @@ module _ (T : Tree) (G : Lawful T) (s : State) (v : Inv T s) (p i : ℕ) (e : s 
 
   -- a turn is an old one, or the new one
   turns : (k : ℕ) → (a : ℕ) → a < hi k → (a < s .hi k) ⊎ ((k ≡ K) × (a ≡ s .hi k))
-  turns =
-      split K
+  turns = split K
       (λ k. (a : ℕ) → a < hi k → (a < s .hi k) ⊎ ((k ≡ K) × (a ≡ s .hi k)))
       (λ a l.
       ⊎-elim
@@ -94,8 +91,7 @@ module _ (T : Tree) (G : Lawful T) (s : State) (v : Inv T s) (p i : ℕ) (e : s 
       by (inr x) (inr y) = omega arith
 
   tail′ : (k a : ℕ) → s .lo k ≤ a → suc a ≡ hi k → tl k ≡ at k a
-  tail′ =
-      split K
+  tail′ = split K
       (λ k. (a : ℕ) → s .lo k ≤ a → suc a ≡ hi k → tl k ≡ at k a)
       (λ a l z. c .here ∙ sym (new-at K a refl (omega (arith, c .more))))
       (λ k ne a l z.
@@ -103,8 +99,7 @@ module _ (T : Tree) (G : Lawful T) (s : State) (v : Inv T s) (p i : ℕ) (e : s 
       ∙ (v .tail k a l (omega (arith, c .stay k ne)) ∙ sym (c .old k a (omega (arith, c .stay k ne)))))
 
   ends′ : (k a : ℕ) → s .lo k ≤ a → suc a ≡ hi k → s .nx (at k a) ≡ 0
-  ends′ =
-      split K
+  ends′ = split K
       (λ k. (a : ℕ) → s .lo k ≤ a → suc a ≡ hi k → s .nx (at k a) ≡ 0)
       (λ a l z. ap (s .nx) (new-at K a refl (omega (arith, c .more))) ∙ asked T s v p (ready i) e)
       (λ k ne a l z.
@@ -122,8 +117,7 @@ module _ (T : Tree) (G : Lawful T) (s : State) (v : Inv T s) (p i : ℕ) (e : s 
     where
       by : ((s .tl K ≡ 0) × (ph p ≡ hold i)) ⊎ ((s .tl K ≢ 0) × (ph p ≡ link i (s .tl K))) → (j ≡ i) ⊎ (j ≡ i → ⊥)
           → Heads T s′ p j
-      by (inl x) (inl z) =
-          subst
+      by (inl x) (inl z) = subst
           (λ j. Heads T s′ p j)
           (sym z) (record {
             some = omega (arith, c .more, bare (x .0));
@@ -137,8 +131,7 @@ module _ (T : Tree) (G : Lawful T) (s : State) (v : Inv T s) (p i : ℕ) (e : s 
           grown p j (v .heads p j on (omega (arith, level-p)))
 
   levels′ : (q : ℕ) → level (T .top q) (ph q) ≤ level (T .top q) (s .ph q)
-  levels′ =
-      split p
+  levels′ = split p
       (λ q. level (T .top q) (ph q) ≤ level (T .top q) (s .ph q))
       (by (c .after))
       (λ q a. omega (arith, ap (level (T .top q)) (c .others q a)))
@@ -187,8 +180,7 @@ module _ (T : Tree) (G : Lawful T) (s : State) (v : Inv T s) (p i : ℕ) (e : s 
             on = m .on;
             queue = m .queue;
             is = c .old k (suc a) x ∙ m .is;
-            waits =
-                split p
+            waits = split p
                 (λ q. Waits (s .ph q) (m .lvl) → Waits (ph q) (m .lvl))
                 (λ w. absurd (not-waits (m .lvl) w))
                 (λ q y w. rw (c .others q y) w)
@@ -263,15 +255,13 @@ module _ (T : Tree) (G : Lawful T) (s : State) (v : Inv T s) (p i : ℕ) (e : s 
         range = split p (λ q. InRange (T .top q) (ph q)) range-p (λ q a. rw (c .others q a) (v .range q));
         order = λ k. omega (arith, v .order k, hi-more k);
         once = once′;
-        empty =
-            split K
+        empty = split K
             (λ k. s .lo k ≡ hi k → tl k ≡ 0)
             (λ z. absurd (omega (arith, c .more, v .order K)))
             (λ k ne z. c .tails k ne ∙ v .empty k (omega (arith, c .stay k ne)));
         tail = tail′;
         ends = ends′;
-        heads =
-            split p
+        heads = split p
             (λ q. (j : ℕ) → On (T .top q) j → level (T .top q) (ph q) ≤ j → Heads T s′ q j)
             heads-p
             (λ q a j on l. grown q j (v .heads q j on (omega (arith, ap (level (T .top q)) (c .others q a)))));

@@ -29,8 +29,7 @@ module _ (T : Tree) (G : Lawful T) (s : State) (v : Inv T s) (p i t : ℕ) (e : 
   was = asked T s v p (link i t) e
 
   levels′ : (q : ℕ) → level (T .top q) (ph q) ≡ level (T .top q) (s .ph q)
-  levels′ =
-      split p
+  levels′ = split p
       (λ q. level (T .top q) (ph q) ≡ level (T .top q) (s .ph q))
       (ap (level (T .top p)) (c .after) ∙ sym (ap (level (T .top p)) e))
       (λ q a. ap (level (T .top q)) (c .others q a))
@@ -38,12 +37,11 @@ module _ (T : Tree) (G : Lawful T) (s : State) (v : Inv T s) (p i t : ℕ) (e : 
   -- of the queued nodes, only the one before p's is written
   queued : (k a : ℕ) → s .lo k ≤ a → a < s .hi k → ((T .elem p i ≡ k) × (was .spot .turn ≡ a) → ⊥)
       → nx (s .at k a) ≡ s .nx (s .at k a)
-  queued k a l l′ d =
-      c .words (s .at k a)
+  queued k a l l′ d = c .words (s .at k a)
       (λ z.
       d
-      (one-turn T G s v (T .elem p i) k (was .spot .turn) a (was .spot .low)
-      (omega (arith, was .spot .high)) l l′ (sym (was .target) ∙ sym z)))
+      (one-turn T G s v (T .elem p i) k (was .spot .turn) a (was .spot .low) (omega (arith, was .spot .high))
+      l l′ (sym (was .target) ∙ sym z)))
 
   -- it is not the end of its queue
   inner : (k a : ℕ) → suc a ≡ s .hi k → (T .elem p i ≡ k) × (was .spot .turn ≡ a) → ⊥
@@ -52,8 +50,7 @@ module _ (T : Tree) (G : Lawful T) (s : State) (v : Inv T s) (p i t : ℕ) (e : 
   -- nor the one before another rank's
   other : (q j : ℕ) → q ≢ p → On (T .top q) j → level (T .top q) (s .ph q) ≡ suc j → (b : Behind T s q j)
       → (T .elem p i ≡ T .elem q j) × (was .spot .turn ≡ b .turn) → ⊥
-  other q j a on l b d =
-      a
+  other q j a on l b d = a
       (one-owner T G s v q p j i on on-p (omega arith) (omega (arith, ap (level (T .top p)) e))
       (sym (b .is) ∙ (rw (← (d .0), ← (d .1)) (was .spot .is))) .0)
 
@@ -63,11 +60,10 @@ module _ (T : Tree) (G : Lawful T) (s : State) (v : Inv T s) (p i t : ℕ) (e : 
   -- a node that is not queued is not written
   unqueued : (q j : ℕ) → On (T .top q) j → level (T .top q) (s .ph q) ≡ suc j → (Waits (s .ph q) j → ⊥)
       → nx (T .node q j) ≡ s .nx (T .node q j)
-  unqueued q j on l w =
-      c .words (T .node q j)
+  unqueued q j on l w = c .words (T .node q j)
       (λ z.
-      apart T G s v q j on l w (T .elem p i) (was .spot .turn) (was .spot .low)
-      (omega (arith, was .spot .high)) (sym (was .target) ∙ sym z))
+      apart T G s v q j on l w (T .elem p i) (was .spot .turn) (was .spot .low) (omega (arith, was .spot .high))
+      (sym (was .target) ∙ sym z))
 
   asks-o : (q : ℕ) → q ≢ p → (f : Phase) → s .ph q ≡ f → InRange (T .top q) f → Asks T s q f → Asks T s′ q f
   unfolding behind
@@ -79,15 +75,13 @@ module _ (T : Tree) (G : Lawful T) (s : State) (v : Inv T s) (p i t : ℕ) (e : 
       record {
         spot = behind q j (o .spot);
         target = o .target;
-        none =
-            queued (T .elem q j) (o .spot .turn) (o .spot .low) (omega (arith, o .spot .high))
+        none = queued (T .elem q j) (o .spot .turn) (o .spot .low) (omega (arith, o .spot .high))
             (other q j a g (ap (level (T .top q)) w) (o .spot)) ∙ o .none;
       }
   asks-o q a (wait j) w g o =
       record {
         spot = behind q j (o .spot);
-        linked =
-            queued (T .elem q j) (o .spot .turn) (o .spot .low) (omega (arith, o .spot .high))
+        linked = queued (T .elem q j) (o .spot .turn) (o .spot .low) (omega (arith, o .spot .high))
             (other q j a g (ap (level (T .top q)) w) (o .spot)) ∙ o .linked;
       }
   asks-o q a (hold j) w g o = tt
@@ -110,8 +104,7 @@ module _ (T : Tree) (G : Lawful T) (s : State) (v : Inv T s) (p i t : ℕ) (e : 
         ends = λ k a l z. queued k a l (omega arith) (inner k a z) ∙ v .ends k a l z;
         heads =
             λ q j on l. let o = v .heads q j on (omega (arith, levels′ q)) in record { some = o .some; is = o .is };
-        holder =
-            λ k l.
+        holder = λ k l.
             let o = v .holder k l in
             record {
               rank = o .rank;
@@ -121,8 +114,7 @@ module _ (T : Tree) (G : Lawful T) (s : State) (v : Inv T s) (p i t : ℕ) (e : 
               is = o .is;
               holds = omega (arith, levels′ (o .rank), o .holds);
             };
-        member =
-            λ k a l l′.
+        member = λ k a l l′.
             let m = v .member k a l l′ in
             record {
               rank = m .rank;
@@ -130,16 +122,14 @@ module _ (T : Tree) (G : Lawful T) (s : State) (v : Inv T s) (p i t : ℕ) (e : 
               on = m .on;
               queue = m .queue;
               is = m .is;
-              waits =
-                  split p
+              waits = split p
                   (λ q. Waits (s .ph q) (m .lvl) → Waits (ph q) (m .lvl))
                   (λ w. rw (c .after) (subst (λ f. Waits f (m .lvl)) e w))
                   (λ q x w. rw (c .others q x) w)
                   (m .rank)
                   (m .waits);
             };
-        asks =
-            split p
+        asks = split p
             (λ q. Asks T s′ q (ph q))
             (rw (c .after) asks-p)
             (λ q a. rw (c .others q a) (asks-o q a (s .ph q) refl (v .range q) (v .asks q)));

@@ -32,8 +32,7 @@ module _ (P : ℕ) (L : Plan) (g : Apt P L) where
   -- every accepted move keeps the lock safe
   pub good-act : (s : Lock) → Good P L s → (m : Move) → Accepted P L s m → Good P L (act L s m)
   good-act s v (Step p) a = good-step P L g s v p (a .0)
-  good-act s v (Leave p) a =
-      ⊎-elim
+  good-act s v (Leave p) a = ⊎-elim
       (λ (e : s .place p ≡ writes).
       subst (λ f. Good P L (go s p (exit L p f))) (sym e) (good-leave-write P L g s v p (a .0) e))
       (λ (e : s .place p ≡ reads).
@@ -43,8 +42,7 @@ module _ (P : ℕ) (L : Plan) (g : Apt P L) where
   -- and is a call of a job
   pub job-act : (s : Lock) → Jobs P L s → (m : Move) → Accepted P L s m → Jobs P L (act L s m)
   job-act s j (Step p) a = stepped s p (g .all p (a .0)) j
-  job-act s j (Leave p) a =
-      ⊎-elim
+  job-act s j (Leave p) a = ⊎-elim
       (λ (e : s .place p ≡ writes). subst (λ f. Jobs P L (go s p (exit L p f))) (sym e) (left-write s p e j))
       (λ (e : s .place p ≡ reads). subst (λ f. Jobs P L (go s p (exit L p f))) (sym e) (left-read s p (a .0) e j))
       (in-is (s .place p) (a .1))
@@ -62,8 +60,7 @@ module _ (P : ℕ) (L : Plan) (g : Apt P L) where
   -- what has to be shown of a machine: each move that the lock accepts from a safe state it accepts too, and it goes
   -- on showing the lock
   abbrev pub Follows : (B : Type 0) → (B → Move → B) → (B → Move → Type 0) → (B → Lock → Type 0) → Type 0
-  Follows B call Ok Shows =
-      (b : B) (s : Lock) (m : Move) → Good P L s → Shows b s → Accepted P L s m
+  Follows B call Ok Shows = (b : B) (s : Lock) (m : Move) → Good P L s → Shows b s → Accepted P L s m
       → Ok b m × Shows (call b m) (act L s m)
 
   pub lifted : (B : Type 0) (call : B → Move → B) (Ok : B → Move → Type 0) (Shows : B → Lock → Type 0)

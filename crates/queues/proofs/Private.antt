@@ -35,16 +35,14 @@ module _ (T : Tree) (G : Lawful T) (s : State) (v : Inv T s) (p : ℕ) (ph : ℕ
   s′ = prepared s ph nx
 
   levels′ : (q : ℕ) → level (T .top q) (ph q) ≡ level (T .top q) (s .ph q)
-  levels′ =
-      split p
+  levels′ = split p
       (λ q. level (T .top q) (ph q) ≡ level (T .top q) (s .ph q))
       (c .levels)
       (λ q a. ap (level (T .top q)) (c .others q a))
 
   -- no queued node is written
   queued : (k a : ℕ) → s .lo k ≤ a → a < s .hi k → nx (s .at k a) ≡ s .nx (s .at k a)
-  queued k a l l′ =
-      ⊎-elim
+  queued k a l l′ = ⊎-elim
       (λ (z : nx (s .at k a) ≡ s .nx (s .at k a)). z)
       (λ (m : Mine T s p (s .at k a)).
       absurd (apart T G s v p (m .lvl) (m .on) (m .near) (c .idle (m .lvl)) k a l l′ (m .is)))
@@ -53,8 +51,7 @@ module _ (T : Tree) (G : Lawful T) (s : State) (v : Inv T s) (p : ℕ) (ph : ℕ
   -- no node of another rank is written
   foreign : (q j : ℕ) → q ≢ p → On (T .top q) j → level (T .top q) (s .ph q) ≤ suc j
       → nx (T .node q j) ≡ s .nx (T .node q j)
-  foreign q j ne on l =
-      ⊎-elim
+  foreign q j ne on l = ⊎-elim
       (λ (z : nx (T .node q j) ≡ s .nx (T .node q j)). z)
       (λ (m : Mine T s p (T .node q j)).
       absurd (ne (one-owner T G s v q p j (m .lvl) on (m .on) l (omega (arith, m .near)) (m .is) .0)))
@@ -95,8 +92,7 @@ module _ (T : Tree) (G : Lawful T) (s : State) (v : Inv T s) (p : ℕ) (ph : ℕ
         ends = λ k a l z. queued k a l (omega arith) ∙ v .ends k a l z;
         heads =
             λ q j on l. let o = v .heads q j on (omega (arith, levels′ q)) in record { some = o .some; is = o .is };
-        holder =
-            λ k l.
+        holder = λ k l.
             let o = v .holder k l in
             record {
               rank = o .rank;
@@ -106,8 +102,7 @@ module _ (T : Tree) (G : Lawful T) (s : State) (v : Inv T s) (p : ℕ) (ph : ℕ
               is = o .is;
               holds = omega (arith, levels′ (o .rank), o .holds);
             };
-        member =
-            λ k a l l′.
+        member = λ k a l l′.
             let m = v .member k a l l′ in
             record {
               rank = m .rank;
@@ -115,16 +110,14 @@ module _ (T : Tree) (G : Lawful T) (s : State) (v : Inv T s) (p : ℕ) (ph : ℕ
               on = m .on;
               queue = m .queue;
               is = m .is;
-              waits =
-                  split p
+              waits = split p
                   (λ q. Waits (s .ph q) (m .lvl) → Waits (ph q) (m .lvl))
                   (λ w. absurd (c .idle (m .lvl) w))
                   (λ q x w. rw (c .others q x) w)
                   (m .rank)
                   (m .waits);
             };
-        asks =
-            split p
+        asks = split p
             (λ q. Asks T s′ q (ph q))
             (c .says)
             (λ q a. rw (c .others q a) (asks-o q a (s .ph q) refl (v .range q) (v .asks q)));

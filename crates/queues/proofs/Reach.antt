@@ -33,8 +33,7 @@ onwards P L Q R f s (move s′ m a r) = move s′ m a (onwards P L Q R f (act L 
 pub some-part : (n : ℕ) (f : ℕ → ℕ) → (total n f ≡ 0) ⊎ ((p : ℕ) × On n p × (0 < f p))
 unfolding total
 some-part zero f = inl refl
-some-part (suc n) f =
-    ⊎-elim
+some-part (suc n) f = ⊎-elim
     (λ (z : 0 < f (suc n)). inr (suc n, omega arith, z))
     (λ (z : f (suc n) ≤ 0).
     ⊎-elim

@@ -59,15 +59,13 @@ module _ (P : ℕ) (L : Plan) (g : Apt P L) where
   Resting s = Good P L s × ((q : ℕ) → On P q → Still (s .place q))
 
   still-phase : (s : Lock) → Resting s → (q : ℕ) → On (T .top q) 1 → level (T .top q) (phase T s q) ≡ suc (T .top q)
-  still-phase s v q o =
-      ⊎-elim
+  still-phase s v q o = ⊎-elim
       (λ (e : s .place q ≡ idle). ap (level (T .top q)) (phase-at T s q idle e))
       (λ (e : s .place q ≡ R3). ap (level (T .top q)) (phase-at T s q R3 e))
       (v .1 q (g .sensible .ranks q o))
 
   still-gate : (s : Lock) → Resting s → (q c : ℕ) → Marks (gate T s q) c → ⊥
-  still-gate s v q c m =
-      ⊎-elim
+  still-gate s v q c m = ⊎-elim
       (λ (z : gate T s q ≡ shut). subst (λ x. Marks x c) z m)
       (λ (z : (level (T .top q) (phase T s q) ≡ 1) × On (T .top q) 1).
       absurd (omega (arith, still-phase s v q (z .1))))
@@ -77,19 +75,12 @@ module _ (P : ℕ) (L : Plan) (g : Apt P L) where
   pub calm : (s : Lock) → Resting s → Calm L s
   calm s v =
       record {
-        tails =
-            λ k.
+        tails = λ k.
             inv .empty k
             (⊎-elim
             (λ (z : s .lo k < s .hi k).
             let h = inv .holder k z in
-            absurd
-            (omega (
-              arith,
-              h .holds,
-              h .on,
-              still-phase s v (h .rank) (omega (arith, h .on)),
-            )))
+            absurd (omega (arith, h .holds, h .on, still-phase s v (h .rank) (omega (arith, h .on)))))
             (λ (z : s .hi k ≤ s .lo k). omega (arith, inv .order k))
             (cases-lt (s .lo k) (s .hi k)));
         counts = λ c l. sums c l .0;
@@ -150,13 +141,11 @@ module _ (P : ℕ) (L : Plan) (g : Apt P L) where
       s₄ = row L s₃ p R7
 
       fourth : Good P L s₃ → Reach P L (Home s₀ p) s₃
-      fourth w =
-          by-step P L g (Home s₀ p) s₃ w p on R7 (upd-same (s₂ .place) p R7) (omega arith)
+      fourth w = by-step P L g (Home s₀ p) s₃ w p on R7 (upd-same (s₂ .place) p R7) (omega arith)
           (λ x.
           here s₄ (record {
             good = x;
-            others =
-                λ q a.
+            others = λ q a.
                 upd-other (s₃ .place) p idle q a
                 ∙ (upd-other (s₂ .place) p R7 q a
                 ∙ (upd-other (s₁ .place) p reads q a ∙ (upd-other (s .place) p R1 q a ∙ h q a)));
@@ -167,15 +156,13 @@ module _ (P : ℕ) (L : Plan) (g : Apt P L) where
       third w = by-leave-read P L g (Home s₀ p) s₂ w p on (upd-same (s₁ .place) p reads) fourth
 
       second : Good P L s₁ → Reach P L (Home s₀ p) s₁
-      second w =
-          by-step P L g (Home s₀ p) s₁ w p on R1 (upd-same (s .place) p R1) (omega arith)
+      second w = by-step P L g (Home s₀ p) s₁ w p on R1 (upd-same (s .place) p R1) (omega arith)
           (rw (lt-ltb (s .ar c) (L .TR) l) third)
 
   -- R3, R4, R5, R6, and then as above
   clear-first : (s : Lock) → Resting s → (p : ℕ) → On P p → s .place p ≡ R3 → L .TR ≤ s .ar (L .home p)
       → Reach P L (Home s p) s
-  clear-first s v p on e l =
-      by-step P L g (Home s p) s (v .0) p on R3 e (omega arith)
+  clear-first s v p on e l = by-step P L g (Home s p) s (v .0) p on R3 e (omega arith)
       (rw (
         le-ltb (s .ar c) (L .TR) l,
         lt-leb (2 ^ 62) (s .ar c) (omega (arith, all .counts c hc, all .small c hc, g .less)),
@@ -207,8 +194,7 @@ module _ (P : ℕ) (L : Plan) (g : Apt P L) where
       s₄ = go (put-ar s₃ c (s .ar c - n)) p R3
 
       fifth : Good P L s₄ → Reach P L (Home s p) s₄
-      fifth w =
-          in-and-out s s₄ w p on
+      fifth w = in-and-out s s₄ w p on
           (λ q a.
           upd-other (s₃ .place) p R3 q a
           ∙ (upd-other (s₂ .place) p (R6 n) q a
@@ -223,14 +209,12 @@ module _ (P : ℕ) (L : Plan) (g : Apt P L) where
       third w = by-step P L g (Home s p) s₂ w p on R5 (upd-same (s₁ .place) p R5) (omega arith) fourth
 
       second : Good P L s₁ → Reach P L (Home s p) s₁
-      second w =
-          by-step P L g (Home s p) s₁ w p on R4 (upd-same (s .place) p R4) (omega arith)
+      second w = by-step P L g (Home s p) s₁ w p on R4 (upd-same (s .place) p R4) (omega arith)
           (rw (eq-eqb (s .tl (T .elem p 1)) 0 (all .tails (T .elem p 1))) third)
 
   one-home : (s : Lock) → Resting s → (p : ℕ) → On P p → 0 < stage-3 (s .place p)
       → Reach P L (Lower P L (λ q. stage-3) Resting s) s
-  one-home s v p on h =
-      onwards P L (Home s p) (Lower P L (λ q. stage-3) Resting s) home s
+  one-home s v p on h = onwards P L (Home s p) (Lower P L (λ q. stage-3) Resting s) home s
       (⊎-elim
       (λ (z : s .ar (L .home p) < L .TR). in-and-out s s (v .0) p on (λ q a. refl) e z)
       (λ (z : L .TR ≤ s .ar (L .home p)). clear-first s v p on e z)
@@ -240,17 +224,16 @@ module _ (P : ℕ) (L : Plan) (g : Apt P L) where
       e = waits-R3 (s .place p) h
 
       home : (t : Lock) → Home s p t → Reach P L (Lower P L (λ q. stage-3) Resting s) t
-      home t m =
-          here t (
-            (
-              m .good,
-              split p
-                  (λ q. On P q → Still (t .place q))
-                  (λ _. inl (m .now))
-                  (λ q a o. rw (m .others q a) (v .1 q o)),
-            ),
-            lowers P L g (λ q. stage-3) s t p on (m .others) (rw (m .now, e) (omega arith)),
-          )
+      home t m = here t (
+        (
+          m .good,
+          split p
+              (λ q. On P q → Still (t .place q))
+              (λ _. inl (m .now))
+              (λ q a o. rw (m .others q a) (v .1 q o)),
+        ),
+        lowers P L g (λ q. stage-3) s t p on (m .others) (rw (m .now, e) (omega arith)),
+      )
 
   -- stage 3: every rank is idle
   pub stage-three : (s : Lock) → Resting s
@@ -268,8 +251,7 @@ module _ (P : ℕ) (L : Plan) (g : Apt P L) where
       third t w = here t (rests t (w .0 .0) (λ q on. still-idle (t .place q) (w .0 .1 q on) (w .1 q on)))
 
       second : (t : Lock) → Quiet P L g t → Reach P L (AtRest P L) t
-      second t w =
-          onwards P L
+      second t w = onwards P L
           (λ u. Quiet P L g u × ((q : ℕ) → On P q → stage-2 P L g q (u .place q) ≡ 0))
           (AtRest P L)
           (λ u x.

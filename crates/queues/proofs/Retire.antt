@@ -55,8 +55,7 @@ module _ (T : Tree) (G : Lawful T) (s : State) (v : Inv T s) (p i : ℕ) (e : s 
   now-empty = c .gone ∙ single
 
   order′ : (k : ℕ) → lo k ≤ s .hi k
-  order′ =
-      split (T .elem p i)
+  order′ = split (T .elem p i)
       (λ k. lo k ≤ s .hi k)
       (omega (arith, now-empty))
       (λ k ne. omega (arith, c .stay k ne, v .order k))
@@ -65,15 +64,13 @@ module _ (T : Tree) (G : Lawful T) (s : State) (v : Inv T s) (p i : ℕ) (e : s 
   lo-less = split (T .elem p i) (λ k. s .lo k ≤ lo k) (omega (arith, c .gone)) (λ k ne. omega (arith, c .stay k ne))
 
   tail′ : (k a : ℕ) → lo k ≤ a → suc a ≡ s .hi k → tl k ≡ s .at k a
-  tail′ =
-      split (T .elem p i)
+  tail′ = split (T .elem p i)
       (λ k. (a : ℕ) → lo k ≤ a → suc a ≡ s .hi k → tl k ≡ s .at k a)
       (λ a l z. absurd (omega (arith, now-empty)))
       (λ k ne a l z. rw (c .tails k ne) (v .tail k a (omega (arith, lo-less k)) z))
 
   empty′ : (k : ℕ) → lo k ≡ s .hi k → tl k ≡ 0
-  empty′ =
-      split (T .elem p i)
+  empty′ = split (T .elem p i)
       (λ k. lo k ≡ s .hi k → tl k ≡ 0)
       (λ _. c .zero)
       (λ k ne z. c .tails k ne ∙ v .empty k (omega (arith, c .stay k ne)))
@@ -83,8 +80,7 @@ module _ (T : Tree) (G : Lawful T) (s : State) (v : Inv T s) (p i : ℕ) (e : s 
       record { some = omega (arith, c .stay (T .elem q j) ne, o .some); is = rw (c .stay (T .elem q j) ne) (o .is) }
 
   heads-p : (j : ℕ) → On (T .top p) j → level (T .top p) (ph p) ≤ j → Heads T s′ p j
-  heads-p j on l =
-      kept p j
+  heads-p j on l = kept p j
       (λ z. let w : j ≡ i = G .level-of p p j i on on-p z in omega (arith, c .giver))
       (v .heads p j on (omega (arith, c .giver, level-p)))
 
@@ -100,7 +96,8 @@ module _ (T : Tree) (G : Lawful T) (s : State) (v : Inv T s) (p i : ℕ) (e : s 
       (v .heads q j on l′)
 
   behind : (q j : ℕ) → Behind T s q j → Behind T s′ q j
-  behind q j b = record { turn = b .turn; low = low (cases-eq (T .elem q j) (T .elem p i)); high = b .high; is = b .is }
+  behind q j b =
+      record { turn = b .turn; low = low (cases-eq (T .elem q j) (T .elem p i)); high = b .high; is = b .is }
     where
       low : (T .elem q j ≡ T .elem p i) ⊎ (T .elem q j ≡ T .elem p i → ⊥) → lo (T .elem q j) ≤ b .turn
       low (inl z) =
@@ -120,8 +117,7 @@ module _ (T : Tree) (G : Lawful T) (s : State) (v : Inv T s) (p i : ℕ) (e : s 
   asks-o q (give g j u) o = o
 
   holder-o : (k : ℕ) → k ≢ T .elem p i → Holder T s k → Holder T s′ k
-  holder-o k ne o =
-      split p
+  holder-o k ne o = split p
       (λ q.
       (j : ℕ) → On (T .top q) j → T .elem q j ≡ k → s .at k (s .lo k) ≡ T .node q j
       → level (T .top q) (s .ph q) ≤ j → Holder T s′ k)
@@ -167,8 +163,7 @@ module _ (T : Tree) (G : Lawful T) (s : State) (v : Inv T s) (p i : ℕ) (e : s 
         on = m .on;
         queue = m .queue;
         is = m .is;
-        waits =
-            split p
+        waits = split p
             (λ q. q ≡ m .rank → Waits (ph q) (m .lvl))
             (λ z. absurd (subst (λ f. Waits f (m .lvl)) (ap (s .ph) (sym z) ∙ e) (m .waits)))
             (λ q x z. rw (c .others q x, z) (m .waits))
@@ -187,14 +182,12 @@ module _ (T : Tree) (G : Lawful T) (s : State) (v : Inv T s) (p i : ℕ) (e : s 
         ends = λ k a l z. v .ends k a (omega (arith, lo-less k)) z;
         heads =
             split p (λ q. (j : ℕ) → On (T .top q) j → level (T .top q) (ph q) ≤ j → Heads T s′ q j) heads-p heads-o;
-        holder =
-            split (T .elem p i)
+        holder = split (T .elem p i)
             (λ k. lo k < s .hi k → Holder T s′ k)
             (λ z. absurd (omega (arith, now-empty)))
             (λ k ne l. holder-o k ne (v .holder k (omega (arith, c .stay k ne))));
         member = λ k a l l′. member-of k a (v .member k a (omega (arith, lo-less k)) l′);
-        asks =
-            split p
+        asks = split p
             (λ q. Asks T s′ q (ph q))
             (calm-asks T s′ p (ph p) (c .calm))
             (λ q a. rw (c .others q a) (asks-o q (s .ph q) (v .asks q)));

@@ -12,7 +12,8 @@ pub split : (a : ℕ) (C : ℕ → Type 0) → C a → ((b : ℕ) → b ≢ a �
 split a C here there b = ⊎-elim (λ (e : b ≡ a). subst C (sym e) here) (λ (n : b ≡ a → ⊥). there b n) (cases-eq b a)
 
 pub split₂ : (a c : ℕ) (C : ℕ → Type 0) → C a → C c → ((b : ℕ) → b ≢ a → b ≢ c → C b) → (b : ℕ) → C b
-split₂ a c C at-a at-c there = split a C at-a (λ b n. split c (λ b. b ≢ a → C b) (λ _. at-c) (λ b m n. there b n m) b n)
+split₂ a c C at-a at-c there =
+    split a C at-a (λ b n. split c (λ b. b ≢ a → C b) (λ _. at-c) (λ b m n. there b n m) b n)
 
 -- a calm phase asks nothing
 pub calm-asks : (T : Tree) (s : State) (p : ℕ) (f : Phase) → Calm f → Asks T s p f

@@ -101,8 +101,7 @@ module _ (L : Plan) (G : Lawful (L .tree)) (small : (q j : ℕ) → L .cap q j �
   -- so it changes no other's phase
   phase-st : (o i u : ℕ) → On (T .top o) i → level (T .top o) (phase T s o) ≤ suc i → (q : ℕ) → q ≢ o
       → phase T (put-st s (T .node o i) u) q ≡ phase T s q
-  phase-st o i u on l q a =
-      phase-same (s .place q) (s .st (T .node q (at-level (s .place q))))
+  phase-st o i u on l q a = phase-same (s .place q) (s .st (T .node q (at-level (s .place q))))
       (upd (s .st) (T .node o i) u (T .node q (at-level (s .place q))))
       (λ j e.
       subst
@@ -114,8 +113,7 @@ module _ (L : Plan) (G : Lawful (L .tree)) (small : (q j : ℕ) → L .cap q j �
   -- and nothing that another's place says
   sound-st : (o i u : ℕ) → On (T .top o) i → level (T .top o) (phase T s o) ≤ suc i → (q : ℕ) → q ≢ o
       → Sound L (upd (s .st) (T .node o i) u) q (s .place q)
-  sound-st o i u on l q a =
-      sound-same L small (s .st) (upd (s .st) (T .node o i) u) q (s .place q)
+  sound-st o i u on l q a = sound-same L small (s .st) (upd (s .st) (T .node o i) u) q (s .place q)
       (λ j on′ l′. st-other o i u on l q j a on′ l′)
       (v .sound q)
       (inv .range q)
@@ -123,8 +121,7 @@ module _ (L : Plan) (G : Lawful (L .tree)) (small : (q j : ℕ) → L .cap q j �
   -- a rank's new place, and the others'
   sound-go : (st : ℕ → ℕ) (p : ℕ) (f : Place) → Sound L st p f → ((q : ℕ) → q ≢ p → Sound L st q (s .place q))
       → (q : ℕ) → Sound L st q (upd (s .place) p f q)
-  sound-go st p f here there =
-      split p
+  sound-go st p f here there = split p
       (λ q. Sound L st q (upd (s .place) p f q))
       (rw (upd-same (s .place) p f) here)
       (λ q a. rw (upd-other (s .place) p f q a) (there q a))
@@ -135,27 +132,26 @@ module _ (L : Plan) (G : Lawful (L .tree)) (small : (q j : ℕ) → L .cap q j �
       let now : phase T (go s p (W2 i)) p ≡ clean i = phase-now T s p (W2 i) in
       let on : On (T .top p) i = range-of (phase T s p) (T .top p) (inv .range p) (fresh i) was in
       record {
-        queues =
-            kept-by T G (view T s) inv p (phase T (go s p (W2 i))) (upd (s .nx) (T .node p i) 0) (record {
-              levels = rw (now, was);
-              in-range = rw now on;
-              idle = λ j w. subst (λ f. Waits f j) was w;
-              others = phase-other T s p (W2 i);
-              words =
-                  λ y.
-                  ⊎-elim
-                  (λ (z : y ≡ T .node p i). inr (record { lvl = i; on = on; near = rw was refl; is = z }))
-                  (λ (z : y ≡ T .node p i → ⊥). inl (upd-other (s .nx) (T .node p i) 0 y z))
-                  (cases-eq y (T .node p i));
-              says = rw now (upd-same (s .nx) (T .node p i) 0);
-            });
+        queues = kept-by T G (view T s) inv p (phase T (go s p (W2 i))) (upd (s .nx) (T .node p i) 0) (record {
+          levels = rw (now, was);
+          in-range = rw now on;
+          idle = λ j w. subst (λ f. Waits f j) was w;
+          others = phase-other T s p (W2 i);
+          words = λ y.
+              ⊎-elim
+              (λ (z : y ≡ T .node p i). inr (record { lvl = i; on = on; near = rw was refl; is = z }))
+              (λ (z : y ≡ T .node p i → ⊥). inl (upd-other (s .nx) (T .node p i) 0 y z))
+              (cases-eq y (T .node p i));
+          says = rw now (upd-same (s .nx) (T .node p i) 0);
+        });
         sound = sound-go (s .st) p (W2 i) (subst (Sound L (s .st) p) e (v .sound p)) (λ q a. v .sound q);
       }
 
   -- a rank's own statuses at other levels
   st-own : (p i u j : ℕ) → On (T .top p) i → On (T .top p) j → j ≢ i
       → upd (s .st) (T .node p i) u (T .node p j) ≡ s .st (T .node p j)
-  st-own p i u j on on′ ne = upd-other (s .st) (T .node p i) u (T .node p j) (λ z. ne (G .queue-of p p j i on′ on z .0))
+  st-own p i u j on on′ ne =
+      upd-other (s .st) (T .node p i) u (T .node p j) (λ z. ne (G .queue-of p p j i on′ on z .0))
 
   counts-own : (p i u : ℕ) → On (T .top p) i → Counts L (s .st) p (suc i)
       → Counts L (upd (s .st) (T .node p i) u) p (suc i)
@@ -181,15 +177,14 @@ module _ (L : Plan) (G : Lawful (L .tree)) (small : (q j : ℕ) → L .cap q j �
   moved p g ar de lv rg ws ak so =
       let now : phase T (go s p g) p ≡ phaseOf g (s .st (T .node p (at-level g))) = phase-now T s p g in
       record {
-        queues =
-            kept-by T G (view T s) inv p (phase T (go s p g)) (s .nx) (record {
-              levels = rw now lv;
-              in-range = rw now rg;
-              idle = ws;
-              others = phase-other T s p g;
-              words = λ y. inl refl;
-              says = rw now ak;
-            });
+        queues = kept-by T G (view T s) inv p (phase T (go s p g)) (s .nx) (record {
+          levels = rw now lv;
+          in-range = rw now rg;
+          idle = ws;
+          others = phase-other T s p g;
+          words = λ y. inl refl;
+          says = rw now ak;
+        });
         sound = sound-go (s .st) p g so (λ q a. v .sound q);
       }
 
@@ -201,20 +196,16 @@ module _ (L : Plan) (G : Lawful (L .tree)) (small : (q j : ℕ) → L .cap q j �
       let on : On (T .top p) i = range-of (phase T s p) (T .top p) (inv .range p) (clean i) was in
       let lv : level (T .top p) (phase T s p) ≤ suc i = rw was (omega arith) in
       record {
-        queues =
-            kept-by T G (view T s) inv p (phase T (go s₁ p (W3 i))) (s .nx) (record {
-              levels = rw (now, was);
-              in-range = rw now on;
-              idle = λ j w. subst (λ f. Waits f j) was w;
-              others = λ q a. phase-other T s₁ p (W3 i) q a ∙ phase-st p i WAIT on lv q a;
-              words = λ y. inl refl;
-              says = rw now (asked T (view T s) inv p (clean i) was);
-            });
-        sound =
-            sound-go (s₁ .st) p (W3 i) (
-              upd-same (s .st) (T .node p i) WAIT,
-              counts-own p i WAIT on (subst (Sound L (s .st) p) e (v .sound p)),
-            )
+        queues = kept-by T G (view T s) inv p (phase T (go s₁ p (W3 i))) (s .nx) (record {
+          levels = rw (now, was);
+          in-range = rw now on;
+          idle = λ j w. subst (λ f. Waits f j) was w;
+          others = λ q a. phase-other T s₁ p (W3 i) q a ∙ phase-st p i WAIT on lv q a;
+          words = λ y. inl refl;
+          says = rw now (asked T (view T s) inv p (clean i) was);
+        });
+        sound = sound-go (s₁ .st) p (W3 i)
+            (upd-same (s .st) (T .node p i) WAIT, counts-own p i WAIT on (subst (Sound L (s .st) p) e (v .sound p)))
             (λ q a. sound-st p i WAIT on lv q a);
       }
 
@@ -226,8 +217,8 @@ module _ (L : Plan) (G : Lawful (L .tree)) (small : (q j : ℕ) → L .cap q j �
       phase-now T s p (W5 i) ∙ w5-wait i (s .st (T .node p i)) (so .0) in
       let on : On (T .top p) i = range-of (phase T s p) (T .top p) (inv .range p) (link i t) was in
       record {
-        queues =
-            linked-up T G (view T s) inv p i t was (phase T (go s p (W5 i))) (upd (s .nx) t (T .node p i)) (record {
+        queues = linked-up T G (view T s) inv p i t was (phase T (go s p (W5 i))) (upd (s .nx) t (T .node p i))
+            (record {
               after = now;
               others = phase-other T s p (W5 i);
               written = upd-same (s .nx) t (T .node p i);
@@ -246,8 +237,7 @@ module _ (L : Plan) (G : Lawful (L .tree)) (small : (q j : ℕ) → L .cap q j �
       so = subst (Sound L (s .st) p) e (v .sound p)
 
       all : w ≢ WAIT → w ≢ tell i → Counts L (s .st) p 1
-      all a b =
-          ⊎-elim
+      all a b = ⊎-elim
           (λ (z : w ≡ WAIT). absurd (a z))
           (λ (z : (w ≡ tell i) ⊎ Counts L (s .st) p 1).
           ⊎-elim (λ (y : w ≡ tell i). absurd (b y)) (λ (y : Counts L (s .st) p 1). y) z)
@@ -280,18 +270,16 @@ module _ (L : Plan) (G : Lawful (L .tree)) (small : (q j : ℕ) → L .cap q j �
       let s₁ : Lock = put-st s (T .node p i) u in
       let now : phase T (go s₁ p g) p ≡ phaseOf g (s₁ .st (T .node p (at-level g))) = phase-now T s₁ p g in
       record {
-        queues =
-            kept-by T G (view T s) inv p (phase T (go s₁ p g)) (s .nx) (record {
-              levels = rw now lv;
-              in-range = rw now rg;
-              idle = ws;
-              others = λ q a. phase-other T s₁ p g q a ∙ phase-st p i u on l q a;
-              words = λ y. inl refl;
-              says =
-                  rw now
-                  (calm-asks T (prepared (view T s) (phase T (go s₁ p g)) (s .nx)) p
-                  (phaseOf g (s₁ .st (T .node p (at-level g)))) cm);
-            });
+        queues = kept-by T G (view T s) inv p (phase T (go s₁ p g)) (s .nx) (record {
+          levels = rw now lv;
+          in-range = rw now rg;
+          idle = ws;
+          others = λ q a. phase-other T s₁ p g q a ∙ phase-st p i u on l q a;
+          words = λ y. inl refl;
+          says = rw now
+              (calm-asks T (prepared (view T s) (phase T (go s₁ p g)) (s .nx)) p
+              (phaseOf g (s₁ .st (T .node p (at-level g)))) cm);
+        });
         sound = sound-go (s₁ .st) p g so (λ q a. sound-st p i u on l q a);
       }
 
@@ -311,21 +299,19 @@ module _ (L : Plan) (G : Lawful (L .tree)) (small : (q j : ℕ) → L .cap q j �
       so = subst (Sound L (s .st) p) e (v .sound p)
 
       so′ : Counts L (upd (s .st) (T .node p i) 0) p i
-      so′ j a b =
-          ⊎-elim
+      so′ j a b = ⊎-elim
           (λ (z : j ≡ i). rw (z, upd-same (s .st) (T .node p i) 0) (omega arith))
           (λ (z : j ≡ i → ⊥). counts-own p i 0 on so j (omega arith) b)
           (cases-eq j i)
 
       by : (b : Bool) → leb 2 i ≡ b → Fine L (go (put-st s (T .node p i) 0) p (cond b (W1 (pred i)) (W7 0)))
-      by true z =
-          wrote p i 0 (W1 (pred i)) on (omega (arith, lv)) (omega (arith, lv, leb-true 2 i z))
+      by true z = wrote p i 0 (W1 (pred i)) on (omega (arith, lv)) (omega (arith, lv, leb-true 2 i z))
           (omega (arith, on, leb-true 2 i z))
           (λ j k. subst (λ f. Waits f j) was k)
           tt
           (λ j a b. so′ j (omega arith) b)
-      by false z =
-          wrote p i 0 (W7 0) on (omega (arith, lv)) (omega (arith, lv, on, leb-false 2 i z)) (omega (arith, on))
+      by false z = wrote p i 0 (W7 0) on (omega (arith, lv)) (omega (arith, lv, on, leb-false 2 i z))
+          (omega (arith, on))
           (λ j k. subst (λ f. Waits f j) was k)
           tt
           (λ j a b. so′ j (omega (arith, leb-false 2 i z)) b)
@@ -346,12 +332,10 @@ module _ (L : Plan) (G : Lawful (L .tree)) (small : (q j : ℕ) → L .cap q j �
       so = subst (Sound L (s .st) p) e (v .sound p)
 
       old : (k a : ℕ) → a < s .hi k → upd (s .at) K (upd (s .at K) (s .hi K) X) k a ≡ s .at k a
-      old =
-          split K
+      old = split K
           (λ k. (a : ℕ) → a < s .hi k → upd (s .at) K (upd (s .at K) (s .hi K) X) k a ≡ s .at k a)
           (λ a l.
-          rw (upd-same (s .at) K (upd (s .at K) (s .hi K) X))
-          (upd-other (s .at K) (s .hi K) X a (omega arith)))
+          rw (upd-same (s .at) K (upd (s .at K) (s .hi K) X)) (upd-other (s .at K) (s .hi K) X a (omega arith)))
           (λ k ne a l. rw (upd-other (s .at) K (upd (s .at K) (s .hi K) X) k ne))
 
       new : upd (s .at) K (upd (s .at K) (s .hi K) X) K (s .hi K) ≡ X
@@ -363,8 +347,7 @@ module _ (L : Plan) (G : Lawful (L .tree)) (small : (q j : ℕ) → L .cap q j �
           → Fine L (go (join s K X) p g)
       to g h so =
           record {
-            queues =
-                joined-up T G (view T s) inv p i was (phase T (go s p g)) (upd (s .tl) K X)
+            queues = joined-up T G (view T s) inv p i was (phase T (go s p g)) (upd (s .tl) K X)
                 (upd (s .at) K (upd (s .at K) (s .hi K) X)) (upd (s .hi) K (suc (s .hi K))) (record {
                   after = h;
                   others = phase-other T s p g;
@@ -386,24 +369,20 @@ module _ (L : Plan) (G : Lawful (L .tree)) (small : (q j : ℕ) → L .cap q j �
   gave : (p h i t u : ℕ) → phase T s p ≡ give h i t → phaseOf (W5 i) u ≡ hold h
       → ((n : Successor T (view T s) p i t) → Sound L (upd (s .st) (T .node (n .rank) i) u) (n .rank) (W5 i))
       → Fine L (go (drop (put-st s t u) (T .elem p i)) p (done L s p i))
-  gave p h i t u was told so =
-      subst
+  gave p h i t u was told so = subst
       (λ y. Fine L (go (drop (put-st s y u) (T .elem p i)) p (done L s p i)))
       (sym (n .target)) (record {
-        queues =
-            handed T G (view T s) inv p h i t was n ph (upd (s .lo) K (suc (s .lo K))) (record {
-              giver = rw now (ok .0);
-              calm = rw now (ok .1);
-              in-range = rw now (ok .2);
-              taker =
-                  phase-other T s₁ p (done L s p i) r r≢p
-                  ∙ (phase-at T s₁ r (W5 i) at-r ∙ (rw (upd-same (s .st) (T .node r i) u) told));
-              others = λ q a b. phase-other T s₁ p (done L s p i) q a ∙ phase-st r i u (n .on) lv q b;
-              gone = upd-same (s .lo) K (suc (s .lo K));
-              stay = λ k ne. upd-other (s .lo) K (suc (s .lo K)) k ne;
-            });
-        sound =
-            sound-go (s₁ .st) p (done L s p i) (done-sound L (s₁ .st) p i (eqb i (T .top p)))
+        queues = handed T G (view T s) inv p h i t was n ph (upd (s .lo) K (suc (s .lo K))) (record {
+          giver = rw now (ok .0);
+          calm = rw now (ok .1);
+          in-range = rw now (ok .2);
+          taker = phase-other T s₁ p (done L s p i) r r≢p
+              ∙ (phase-at T s₁ r (W5 i) at-r ∙ (rw (upd-same (s .st) (T .node r i) u) told));
+          others = λ q a b. phase-other T s₁ p (done L s p i) q a ∙ phase-st r i u (n .on) lv q b;
+          gone = upd-same (s .lo) K (suc (s .lo K));
+          stay = λ k ne. upd-other (s .lo) K (suc (s .lo K)) k ne;
+        });
+        sound = sound-go (s₁ .st) p (done L s p i) (done-sound L (s₁ .st) p i (eqb i (T .top p)))
             (λ q a.
             split r
             (λ q. q ≢ p → Sound L (s₁ .st) q (s .place q))
@@ -437,8 +416,7 @@ module _ (L : Plan) (G : Lawful (L .tree)) (small : (q j : ℕ) → L .cap q j �
       ok : (level (T .top p) (phaseOf (done L s p i) (s₁ .st (T .node p (at-level (done L s p i))))) ≡ suc i)
           × Calm (phaseOf (done L s p i) (s₁ .st (T .node p (at-level (done L s p i)))))
           × InRange (T .top p) (phaseOf (done L s p i) (s₁ .st (T .node p (at-level (done L s p i)))))
-      ok =
-          done-ok (T .top p) i (omega (arith, rg)) (eqb i (T .top p)) refl
+      ok = done-ok (T .top p) i (omega (arith, rg)) (eqb i (T .top p)) refl
           (s₁ .st (T .node p (at-level (done L s p i))))
 
       at-r : s .place r ≡ W5 i
@@ -457,8 +435,7 @@ module _ (L : Plan) (G : Lawful (L .tree)) (small : (q j : ℕ) → L .cap q j �
       G .shared r p j (omega arith) (omega arith) (omega arith) (G .above r p i (suc j) on on′ (omega arith) l e)
 
   fine-U3 : (p i t n : ℕ) → s .place p ≡ U3 i t n → Fine L (row L s p (U3 i t n))
-  fine-U3 p i t n e =
-      gave p 1 i t n was (w5-count i n (omega (arith, so .0, small i)))
+  fine-U3 p i t n e = gave p 1 i t n was (w5-count i n (omega (arith, so .0, small i)))
       (λ c. (
         c .on,
         (λ j a b. rw (st-own (c .rank) i n j (c .on) (omega arith) (omega arith)) (own c j a b)),
@@ -475,8 +452,7 @@ module _ (L : Plan) (G : Lawful (L .tree)) (small : (q j : ℕ) → L .cap q j �
       so = subst (Sound L (s .st) p) e (v .sound p)
 
       own : (c : Successor T (view T s) p i t) → Counts L (s .st) (c .rank) (suc i)
-      own c =
-          subst (Sound L (s .st) (c .rank))
+      own c = subst (Sound L (s .st) (c .rank))
           (only-W5 (s .place (c .rank)) (s .st (T .node (c .rank) (at-level (s .place (c .rank))))) i (c .waits))
           (v .sound (c .rank)) .1
 
@@ -485,17 +461,15 @@ module _ (L : Plan) (G : Lawful (L .tree)) (small : (q j : ℕ) → L .cap q j �
         where
           by : (j ≡ i) ⊎ ((j < i) ⊎ (i < j)) → upd (s .st) (T .node (c .rank) i) n (T .node (c .rank) j) ≤ 1000
           by (inl z) = rw (z, upd-same (s .st) (T .node (c .rank) i) n) (so .0)
-          by (inr (inl z)) =
-              rw (
-                st-own (c .rank) i n j (c .on) (omega arith) (omega arith),
-                way-up (c .rank) p i (c .on) (omega (arith, rg)) (c .queue) j a z,
-              )
+          by (inr (inl z)) = rw (
+            st-own (c .rank) i n j (c .on) (omega arith) (omega arith),
+            way-up (c .rank) p i (c .on) (omega (arith, rg)) (c .queue) j a z,
+          )
               (so .1 j a (omega (arith, rg)))
           by (inr (inr z)) = rw (st-own (c .rank) i n j (c .on) (omega arith) (omega arith)) (own c j z b)
 
   fine-U9 : (p i t : ℕ) → s .place p ≡ U9 i t → Fine L (row L s p (U9 i t))
-  fine-U9 p i t e =
-      gave p i i t (tell i) (phase-at T s p (U9 i t) e)
+  fine-U9 p i t e = gave p i i t (tell i) (phase-at T s p (U9 i t) e)
       (w5-told i (tell i) (omega (arith, tell-big i)) (tell-big i .1))
       (λ c. (
         c .on,
@@ -504,8 +478,7 @@ module _ (L : Plan) (G : Lawful (L .tree)) (small : (q j : ℕ) → L .cap q j �
       ))
     where
       own : (c : Successor T (view T s) p i t) → Counts L (s .st) (c .rank) (suc i)
-      own c =
-          subst (Sound L (s .st) (c .rank))
+      own c = subst (Sound L (s .st) (c .rank))
           (only-W5 (s .place (c .rank)) (s .st (T .node (c .rank) (at-level (s .place (c .rank))))) i (c .waits))
           (v .sound (c .rank)) .1
 
@@ -523,10 +496,10 @@ module _ (L : Plan) (G : Lawful (L .tree)) (small : (q j : ℕ) → L .cap q j �
         lo = s .lo;
         hi = s .hi;
       })
-  quiet p g ar de e c so =
-      moved p g ar de (ap (level (T .top p)) e) (rw e (inv .range p)) (calm-waits (phase T s p) c)
-      (calm-asks T (prepared (view T s) (phase T (go s p g)) (s .nx)) p
-      (phaseOf g (s .st (T .node p (at-level g)))) (rw e c))
+  quiet p g ar de e c so = moved p g ar de (ap (level (T .top p)) e) (rw e (inv .range p))
+      (calm-waits (phase T s p) c)
+      (calm-asks T (prepared (view T s) (phase T (go s p g)) (s .nx)) p (phaseOf g (s .st (T .node p (at-level g))))
+      (rw e c))
       so
 
   fine-U8 : (p i : ℕ) → s .place p ≡ U8 i → Fine L (row L s p (U8 i))
@@ -540,8 +513,7 @@ module _ (L : Plan) (G : Lawful (L .tree)) (small : (q j : ℕ) → L .cap q j �
 
       by : (b : Bool) → eqb (s .nx (T .node p i)) 0 ≡ b → Fine L (go s p (cond b (U10 i) (U9 i (s .nx (T .node p i)))))
       by true z = quiet p (U10 i) (s .ar) (s .de) (sym was) (rw was tt) tt
-      by false z =
-          moved p (U9 i (s .nx (T .node p i))) (s .ar) (s .de) (rw was) (omega (arith, on))
+      by false z = moved p (U9 i (s .nx (T .node p i))) (s .ar) (s .de) (rw was) (omega (arith, on))
           (λ j k. subst (λ f. Waits f j) was k)
           (refl, eqb-false (s .nx (T .node p i)) 0 z)
           tt
@@ -570,8 +542,7 @@ module _ (L : Plan) (G : Lawful (L .tree)) (small : (q j : ℕ) → L .cap q j �
           → Fine L (cond b (go (free s K) p (done L s p i)) (go s p (U8 i)))
       by true z =
           record {
-            queues =
-                retired T G (view T s) inv p i was (eqb-true (s .tl K) (T .node p i) z)
+            queues = retired T G (view T s) inv p i was (eqb-true (s .tl K) (T .node p i) z)
                 (phase T (go s p (done L s p i))) (upd (s .tl) K 0) (upd (s .lo) K (suc (s .lo K))) (record {
                   giver = rw now (ok .0);
                   calm = rw now (ok .1);
@@ -616,8 +587,7 @@ module _ (L : Plan) (G : Lawful (L .tree)) (small : (q j : ℕ) → L .cap q j �
       by : (a b : Bool) → eqb (s .nx (T .node p i)) 0 ≡ a → ltb n (L .cap p i) ≡ b
           → Fine L (go s p (cond a g (cond b (U3 i (s .nx (T .node p i)) (suc n)) g)))
       by true b x y = to (hold 1) tt p was g (s .ar) (s .de) h
-      by false true x y =
-          moved p (U3 i (s .nx (T .node p i)) (suc n)) (s .ar) (s .de) (rw was) (omega (arith, on))
+      by false true x y = moved p (U3 i (s .nx (T .node p i)) (suc n)) (s .ar) (s .de) (rw was) (omega (arith, on))
           (λ j k. subst (λ f. Waits f j) was k)
           (refl, eqb-false (s .nx (T .node p i)) 0 x)
           (omega (arith, ltb-true n (L .cap p i) y, small p i), so)
@@ -625,8 +595,7 @@ module _ (L : Plan) (G : Lawful (L .tree)) (small : (q j : ℕ) → L .cap q j �
 
   -- the next level up
   up : (p i : ℕ) → 2 ≤ i → i ≤ T .top p → Counts L (s .st) p 1 → At (hold 1) p (cond (leb i 2) U4 (U1 (pred i)))
-  up p i a b so =
-      cond-both (leb i 2) U4 (U1 (pred i)) (At (hold 1) p)
+  up p i a b so = cond-both (leb i 2) U4 (U1 (pred i)) (At (hold 1) p)
       (λ _. ((λ w. refl), so))
       (λ z. ((λ w. refl), (omega (arith, leb-false i 2 z), omega arith, so)))
 
@@ -684,30 +653,23 @@ module _ (L : Plan) (G : Lawful (L .tree)) (small : (q j : ℕ) → L .cap q j �
   fine-row p o (U8 i) e = fine-U8 p i e
   fine-row p o (U9 i t) e = fine-U9 p i t e
   fine-row p o (U10 i) e = fine-U10 p i e
-  fine-row p o R1 e =
-      to out tt p (phase-at T s p R1 e) (cond (ltb (s .ar (L .home p)) (L .TR)) reads R2)
+  fine-row p o R1 e = to out tt p (phase-at T s p R1 e) (cond (ltb (s .ar (L .home p)) (L .TR)) reads R2)
       (upd (s .ar) (L .home p) (suc (s .ar (L .home p)))) (s .de)
       (either p (ltb (s .ar (L .home p)) (L .TR)) reads R2 ((λ w. refl), tt) ((λ w. refl), tt))
-  fine-row p o R2 e =
-      to out tt p (phase-at T s p R2 e) R3 (upd (s .ar) (L .home p) (pred (s .ar (L .home p)))) (s .de)
-      ((λ w. refl), tt)
-  fine-row p o R3 e =
-      to out tt p (phase-at T s p R3 e)
+  fine-row p o R2 e = to out tt p (phase-at T s p R2 e) R3 (upd (s .ar) (L .home p) (pred (s .ar (L .home p))))
+      (s .de) ((λ w. refl), tt)
+  fine-row p o R3 e = to out tt p (phase-at T s p R3 e)
       (cond (ltb (s .ar (L .home p)) (L .TR)) R1 (cond (leb (2 ^ 62) (s .ar (L .home p))) R3 R4)) (s .ar) (s .de)
-      (either p (ltb (s .ar (L .home p)) (L .TR)) R1 (cond (leb (2 ^ 62) (s .ar (L .home p))) R3 R4)
-      ((λ w. refl), tt)
+      (either p (ltb (s .ar (L .home p)) (L .TR)) R1 (cond (leb (2 ^ 62) (s .ar (L .home p))) R3 R4) ((λ w. refl), tt)
       (either p (leb (2 ^ 62) (s .ar (L .home p))) R3 R4 ((λ w. refl), tt) ((λ w. refl), tt)))
-  fine-row p o R4 e =
-      to out tt p (phase-at T s p R4 e) (cond (eqb (s .tl (T .elem p 1)) 0) R5 R3) (s .ar) (s .de)
+  fine-row p o R4 e = to out tt p (phase-at T s p R4 e) (cond (eqb (s .tl (T .elem p 1)) 0) R5 R3) (s .ar) (s .de)
       (either p (eqb (s .tl (T .elem p 1)) 0) R5 R3 ((λ w. refl), tt) ((λ w. refl), tt))
   fine-row p o R5 e =
       to out tt p (phase-at T s p R5 e) (R6 (s .de (L .home p))) (s .ar) (upd (s .de) (L .home p) 0) ((λ w. refl), tt)
-  fine-row p o (R6 n) e =
-      to out tt p (phase-at T s p (R6 n) e) R3 (upd (s .ar) (L .home p) (s .ar (L .home p) - n)) (s .de)
-      ((λ w. refl), tt)
-  fine-row p o R7 e =
-      to out tt p (phase-at T s p R7 e) idle (s .ar) (upd (s .de) (L .home p) (suc (s .de (L .home p))))
-      ((λ w. refl), tt)
+  fine-row p o (R6 n) e = to out tt p (phase-at T s p (R6 n) e) R3 (upd (s .ar) (L .home p) (s .ar (L .home p) - n))
+      (s .de) ((λ w. refl), tt)
+  fine-row p o R7 e = to out tt p (phase-at T s p R7 e) idle (s .ar)
+      (upd (s .de) (L .home p) (suc (s .de (L .home p)))) ((λ w. refl), tt)
   fine-row p o writes e = v
   fine-row p o reads e = v
 
@@ -737,9 +699,8 @@ module _ (L : Plan) (G : Lawful (L .tree)) (small : (q j : ℕ) → L .cap q j �
   -- writers exclude writers: element 1 is everyone's
   pub one-writer : (p r : ℕ) → On (T .top p) 1 → On (T .top r) 1 → T .elem p 1 ≡ T .elem r 1 → s .place p ≡ writes
       → s .place r ≡ writes → p ≡ r
-  one-writer p r on on′ e a b =
-      one-holder T G (view T s) inv p r 1 on on′ (rw (phase-at T s p writes a) (omega arith))
-      (rw (phase-at T s r writes b) (omega arith)) e
+  one-writer p r on on′ e a b = one-holder T G (view T s) inv p r 1 on on′
+      (rw (phase-at T s p writes a) (omega arith)) (rw (phase-at T s r writes b) (omega arith)) e
 
 pub fine-start : (L : Plan) → Fine L fresh-lock
 fine-start L =

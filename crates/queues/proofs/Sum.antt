@@ -20,8 +20,7 @@ pub total-swap : (n : ℕ) (f g : ℕ → ℕ) (p : ℕ) → On n p → ((q : �
     → total n g + f p ≡ total n f + g p
 unfolding total
 total-swap zero f g p on e = absurd (omega arith)
-total-swap (suc n) f g p on e =
-    ⊎-elim
+total-swap (suc n) f g p on e = ⊎-elim
     (λ (z : p ≡ suc n).
     let t : total n g ≡ total n f = total-same n f g (λ q a b. e q (omega arith)) in
     let y : f p ≡ f (suc n) = ap f z in let x : g p ≡ g (suc n) = ap g z in omega arith)
@@ -34,8 +33,7 @@ total-swap (suc n) f g p on e =
 pub total-part : (n : ℕ) (f : ℕ → ℕ) (p : ℕ) → On n p → f p ≤ total n f
 unfolding total
 total-part zero f p on = absurd (omega arith)
-total-part (suc n) f p on =
-    ⊎-elim
+total-part (suc n) f p on = ⊎-elim
     (λ (z : p ≡ suc n). let y : f p ≡ f (suc n) = ap f z in omega arith)
     (λ (z : p ≡ suc n → ⊥). omega (arith, total-part n f p (omega arith)))
     (cases-eq p (suc n))

@@ -26,8 +26,7 @@ upd-other f a v b h = rw (ne-eqb b a h)
 pub framed : (T : Tree) (s s′ : State) → ((p : ℕ) → s .ph p ≡ s′ .ph p) → ((h : ℕ) → s .nx h ≡ s′ .nx h)
     → ((k : ℕ) → s .tl k ≡ s′ .tl k) → ((k a : ℕ) → s .at k a ≡ s′ .at k a) → ((k : ℕ) → s .lo k ≡ s′ .lo k)
     → ((k : ℕ) → s .hi k ≡ s′ .hi k) → Inv T s → Inv T s′
-framed T s s′ a b c d e f v =
-    subst (Inv T)
+framed T s s′ a b c d e f v = subst (Inv T)
     (λ i.
     record {
       ph = λ p. a p i;
@@ -82,8 +81,7 @@ pub w5-told : (i w : ℕ) → w ≢ WAIT → 1000 < w → phaseOf (W5 i) w ≡ h
 w5-told i w e h = rw (ne-eqb w WAIT e, lt-leb w 1000 h)
 
 pub tell-big : (i : ℕ) → (WAIT < tell i) × (1000 < tell i)
-tell-big i =
-    ⊎-elim
+tell-big i = ⊎-elim
     (λ (z : i ≡ 1). rw (eq-eqb i 1 z) (omega arith))
     (λ (z : i ≡ 1 → ⊥). rw (ne-eqb i 1 z) (omega arith))
     (cases-eq i 1)

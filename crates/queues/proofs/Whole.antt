@@ -114,8 +114,7 @@ gate-other T s p f q a = ap (λ g. gateOf g (s .st (T .node q (at-level g)))) (u
 pub tallied : (P C TR : ℕ) (s s′ : Tally) → ((p : ℕ) → s .load p ≡ s′ .load p) → ((p : ℕ) → s .gate p ≡ s′ .gate p)
     → ((c : ℕ) → s .ar c ≡ s′ .ar c) → ((c : ℕ) → s .de c ≡ s′ .de c) → ((c : ℕ) → s .bit c ≡ s′ .bit c)
     → Counted P C TR s → Counted P C TR s′
-tallied P C TR s s′ a b c d e v =
-    subst (Counted P C TR)
+tallied P C TR s s′ a b c d e v = subst (Counted P C TR)
     (λ i. record { load = λ p. a p i; gate = λ p. b p i; ar = λ n. c n i; de = λ n. d n i; bit = λ n. e n i })
     v
 
@@ -134,8 +133,7 @@ module _ (P : ℕ) (L : Plan) (G : Lawful (L .tree)) (small : (q j : ℕ) → L 
 
   -- while p holds the whole machine, all other gates are shut
   alone : (p : ℕ) → On (T .top p) 1 → level (T .top p) (phase T s p) ≤ 1 → (q : ℕ) → q ≢ p → gate T s q ≡ shut
-  alone p o l q a =
-      ⊎-elim
+  alone p o l q a = ⊎-elim
       (λ (z : gate T s q ≡ shut). z)
       (λ (z : (level (T .top q) (phase T s q) ≡ 1) × On (T .top q) 1).
       absurd (a (one-holder T G (view T s) inv q p 1 (z .1) o (omega arith) l (root q p (z .1) o))))
@@ -143,8 +141,7 @@ module _ (P : ℕ) (L : Plan) (G : Lawful (L .tree)) (small : (q j : ℕ) → L 
 
   gate-st : (o i u : ℕ) → On (T .top o) i → level (T .top o) (phase T s o) ≤ suc i → (q : ℕ) → q ≢ o
       → gate T (put-st s (T .node o i) u) q ≡ gate T s q
-  gate-st o i u on l q a =
-      gate-same (s .place q) (s .st (T .node q (at-level (s .place q))))
+  gate-st o i u on l q a = gate-same (s .place q) (s .st (T .node q (at-level (s .place q))))
       (upd (s .st) (T .node o i) u (T .node q (at-level (s .place q))))
       (λ j e.
       subst
@@ -171,8 +168,7 @@ module _ (P : ℕ) (L : Plan) (G : Lawful (L .tree)) (small : (q j : ℕ) → L 
         hi = s .hi;
       })
       bit)
-  still st p g x y z =
-      tallied P C (L .TR) (tally L s bit)
+  still st p g x y z = tallied P C (L .TR) (tally L s bit)
       (tally L
       (record {
         place = upd (s .place) p g;
@@ -245,8 +241,8 @@ module _ (P : ℕ) (L : Plan) (G : Lawful (L .tree)) (small : (q j : ℕ) → L 
         hi = s .hi;
       })
       bit)
-  after p g ar de x w =
-      tallied P C (L .TR) (record { load = load′ p g; gate = gate T s; ar = ar; de = de; bit = bit })
+  after p g ar de x w = tallied P C (L .TR)
+      (record { load = load′ p g; gate = gate T s; ar = ar; de = de; bit = bit })
       (tally L
       (record {
         place = upd (s .place) p g;
@@ -262,9 +258,7 @@ module _ (P : ℕ) (L : Plan) (G : Lawful (L .tree)) (small : (q j : ℕ) → L 
       bit)
       (λ q. refl)
       (split p
-      (λ q.
-      gate T s q
-      ≡ gateOf (upd (s .place) p g q) (s .st (T .node q (at-level (upd (s .place) p g q)))))
+      (λ q. gate T s q ≡ gateOf (upd (s .place) p g q) (s .st (T .node q (at-level (upd (s .place) p g q)))))
       (rw (upd-same (s .place) p g) (sym x))
       (λ q a. rw (upd-other (s .place) p g q a)))
       (λ c. refl)
@@ -297,8 +291,7 @@ module _ (P : ℕ) (L : Plan) (G : Lawful (L .tree)) (small : (q j : ℕ) → L 
         hi = s .hi;
       })
       bit)
-  drain p c f g ar de on e gt lc x y fl fa fr ou =
-      after p g ar de gt
+  drain p c f g ar de on e gt lc x y fl fa fr ou = after p g ar de gt
       (drained P C (L .TR) (tally L s bit) (v .counted) p c on (load′ p g) ar de (record {
         shift = shift p c f g ar de e lc x y;
         flow = rw (load-now p g, e) fl;
@@ -411,12 +404,10 @@ module _ (P : ℕ) (L : Plan) (G : Lawful (L .tree)) (small : (q j : ℕ) → L 
             hi = s .hi;
           })
           bit)
-      by true z =
-          after p reads (upd (s .ar) (L .home p) (suc (s .ar (L .home p)))) (s .de) (sym (gate-at T s p R1 e))
+      by true z = after p reads (upd (s .ar) (L .home p) (suc (s .ar (L .home p)))) (s .de) (sym (gate-at T s p R1 e))
           (entered P C (L .TR) cap (tally L s bit) (v .counted) p (L .home p) (homes p) on (load′ p reads)
           (upd (s .ar) (L .home p) (suc (s .ar (L .home p)))) (record {
-            shift =
-                shift p (L .home p) R1 reads (upd (s .ar) (L .home p) (suc (s .ar (L .home p)))) (s .de) e
+            shift = shift p (L .home p) R1 reads (upd (s .ar) (L .home p) (suc (s .ar (L .home p)))) (s .de) e
                 (λ d ne. (refl, pick-other (L .home p) 1 d (λ z. ne (sym z)), refl))
                 (λ d ne. upd-other (s .ar) (L .home p) (suc (s .ar (L .home p))) d ne)
                 (λ d ne. refl);
@@ -425,8 +416,7 @@ module _ (P : ℕ) (L : Plan) (G : Lawful (L .tree)) (small : (q j : ℕ) → L 
             word = u;
             room = ltb-true (s .ar (L .home p)) (L .TR) z;
           }))
-      by false z =
-          drain p (L .home p) R1 R2 (upd (s .ar) (L .home p) (suc (s .ar (L .home p)))) (s .de) on e
+      by false z = drain p (L .home p) R1 R2 (upd (s .ar) (L .home p) (suc (s .ar (L .home p)))) (s .de) on e
           (sym (gate-at T s p R1 e))
           (λ d ne. (pick-other (L .home p) 1 d (λ z. ne (sym z)), refl, refl))
           (λ d ne. upd-other (s .ar) (L .home p) (suc (s .ar (L .home p))) d ne)
@@ -520,8 +510,7 @@ module _ (P : ℕ) (L : Plan) (G : Lawful (L .tree)) (small : (q j : ℕ) → L 
 
   not-inside : (p : ℕ) (g : Place) (c : ℕ) → loadOf (L .home p) g ≡ none → ((q : ℕ) → On P q → load q ≢ inside c)
       → (q : ℕ) → On P q → load′ p g q ≢ inside c
-  not-inside p g c z h =
-      split p
+  not-inside p g c z h = split p
       (λ q. On P q → load′ p g q ≢ inside c)
       (λ _ w. none-inside c (sym z ∙ (sym (load-now p g) ∙ w)))
       (λ q a on w. h q on (sym (load-other p g q a) ∙ w))
@@ -565,7 +554,8 @@ module _ (P : ℕ) (L : Plan) (G : Lawful (L .tree)) (small : (q j : ℕ) → L 
       (λ (z : C ≤ 0). absurd (omega (arith, homes p)))
       (cases-lt 0 C)
 
-  level-1 : (p : ℕ) (f : Place) → s .place p ≡ f → ((w : ℕ) → phaseOf f w ≡ hold 1) → level (T .top p) (phase T s p) ≤ 1
+  level-1 : (p : ℕ) (f : Place) → s .place p ≡ f → ((w : ℕ) → phaseOf f w ≡ hold 1)
+      → level (T .top p) (phase T s p) ≤ 1
   level-1 p f e h = rw (phase-at T s p f e, h (s .st (T .node p (at-level f)))) (omega arith)
 
   count-W8 : (p k : ℕ) → On P p → On (T .top p) 1 → k < C → s .place p ≡ W8 k
@@ -596,8 +586,7 @@ module _ (P : ℕ) (L : Plan) (G : Lawful (L .tree)) (small : (q j : ℕ) → L 
       old c m w = v .counted .kept p c m (rw g w)
 
       new : n ≡ 2 ^ 62 + s .de k → (c : ℕ) → c < C → c ≤ k → (q : ℕ) → On P q → load q ≢ inside c
-      new z c m w =
-          ⊎-elim
+      new z c m w = ⊎-elim
           (λ (y : c ≡ k).
           subst
           (λ c. (q : ℕ) → On P q → load q ≢ inside c)
@@ -608,20 +597,18 @@ module _ (P : ℕ) (L : Plan) (G : Lawful (L .tree)) (small : (q j : ℕ) → L 
 
       by : (a b : Bool) → eqb n (2 ^ 62 + s .de k) ≡ a → ltb (suc k) C ≡ b
           → Counted P C (L .TR) (tally L (go s p (cond a (cond b (W8 (suc k)) writes) (W8 k))) bit)
-      by true true x y =
-          turn p (W9 k n) (W8 (suc k)) on o e (level-1 p (W9 k n) e (λ w. refl)) refl refl (checking (suc k)) refl
+      by true true x y = turn p (W9 k n) (W8 (suc k)) on o e (level-1 p (W9 k n) e (λ w. refl)) refl refl
+          (checking (suc k)) refl
           (λ c m w. rw g tt)
           (λ c m w. tt)
           (λ c m w. new (eqb-true n (2 ^ 62 + s .de k) x) c m (omega arith))
           (λ j i w. absurd (let z : _≡_ {A = ℕ} 0 1 = cc in omega arith))
-      by true false x y =
-          turn p (W9 k n) writes on o e (level-1 p (W9 k n) e (λ w. refl)) refl refl wide refl
+      by true false x y = turn p (W9 k n) writes on o e (level-1 p (W9 k n) e (λ w. refl)) refl refl wide refl
           (λ c m w. rw g tt)
           (λ c m w. tt)
           (λ c m w. new (eqb-true n (2 ^ 62 + s .de k) x) c m (omega (arith, ltb-false (suc k) C y)))
           (λ j i w. absurd (let z : _≡_ {A = ℕ} 0 1 = cc in omega arith))
-      by false b x y =
-          turn p (W9 k n) (W8 k) on o e (level-1 p (W9 k n) e (λ w. refl)) refl refl (checking k) refl
+      by false b x y = turn p (W9 k n) (W8 k) on o e (level-1 p (W9 k n) e (λ w. refl)) refl refl (checking k) refl
           (λ c m w. rw g tt)
           (λ c m w. tt)
           (λ c m w. old c m w)
@@ -638,8 +625,7 @@ module _ (P : ℕ) (L : Plan) (G : Lawful (L .tree)) (small : (q j : ℕ) → L 
       lv = level-1 p (W7 k) e (λ w. refl)
 
       down : bit k ≡ 0
-      down =
-          ⊎-elim
+      down = ⊎-elim
           (λ (z : bit k ≡ 1).
           let w : k < k = subst (λ h. Marks h k) g (own-marks p o lv k l z) in absurd (omega arith))
           (λ (z : bit k ≡ 1 → ⊥). omega (arith, v .counted .each k l .bits))
@@ -649,15 +635,13 @@ module _ (P : ℕ) (L : Plan) (G : Lawful (L .tree)) (small : (q j : ℕ) → L 
       up = upd-same bit k 1
 
       raised : (c : ℕ) → c < C → c < suc k → upd bit k 1 c ≡ 1
-      raised c m w =
-          ⊎-elim
+      raised c m w = ⊎-elim
           (λ (z : c ≡ k). rw (z, up))
           (λ (z : c ≡ k → ⊥). upd-other bit k 1 c z ∙ v .counted .marked p c m (rw g (omega arith)))
           (cases-eq c k)
 
       back : (c : ℕ) → c < C → upd bit k 1 c ≡ 1 → c < suc k
-      back c m w =
-          ⊎-elim
+      back c m w = ⊎-elim
           (λ (z : c ≡ k). omega arith)
           (λ (z : c ≡ k → ⊥).
           let x : c < k = subst (λ h. Marks h c) g (own-marks p o lv c m (sym (upd-other bit k 1 c z) ∙ w)) in
@@ -681,8 +665,7 @@ module _ (P : ℕ) (L : Plan) (G : Lawful (L .tree)) (small : (q j : ℕ) → L 
             hi = s .hi;
           })
           (upd bit k 1))
-      at q h lq gq a b c d =
-          flip p k (W7 k) q (upd (s .ar) k (s .ar k + 2 ^ 62)) (upd bit k 1) on o e lv
+      at q h lq gq a b c d = flip p k (W7 k) q (upd (s .ar) k (s .ar k + 2 ^ 62)) (upd bit k 1) on o e lv
           (λ d ne. rw lq (refl, refl, refl))
           (λ d ne. upd-other (s .ar) k (s .ar k + 2 ^ 62) d ne)
           (λ d ne. upd-other bit k 1 d ne)
@@ -711,14 +694,12 @@ module _ (P : ℕ) (L : Plan) (G : Lawful (L .tree)) (small : (q j : ℕ) → L 
             hi = s .hi;
           })
           (upd bit k 1))
-      by true z =
-          at (W7 (suc k)) (raising (suc k)) refl refl
+      by true z = at (W7 (suc k)) (raising (suc k)) refl refl
           (λ c m w. w)
           (λ c m w. w)
           (λ c w. w)
           (λ j n e. let z : _≡_ {A = ℕ} 0 1 = cc in omega arith)
-      by false z =
-          at (W8 0) (checking 0) refl refl
+      by false z = at (W8 0) (checking 0) refl refl
           (λ c m w. omega (arith, ltb-false (suc k) C z))
           (λ c m w. tt)
           (λ c w. omega arith)
@@ -747,8 +728,7 @@ module _ (P : ℕ) (L : Plan) (G : Lawful (L .tree)) (small : (q j : ℕ) → L 
       kept c m w = upd-other bit k 0 c (omega arith) ∙ v .counted .marked p c m (rw g (omega arith))
 
       back : (c : ℕ) → c < C → upd bit k 0 c ≡ 1 → suc k ≤ c
-      back c m w =
-          ⊎-elim
+      back c m w = ⊎-elim
           (λ (z : c ≡ k). let x : upd bit k 0 c ≡ 0 = rw (z, low) in absurd (omega arith))
           (λ (z : c ≡ k → ⊥).
           let x : k ≤ c = subst (λ h. Marks h c) g (own-marks p o lv c m (sym (upd-other bit k 0 c z) ∙ w)) in
@@ -772,8 +752,7 @@ module _ (P : ℕ) (L : Plan) (G : Lawful (L .tree)) (small : (q j : ℕ) → L 
             hi = s .hi;
           })
           (upd bit k 0))
-      at q h lq gq a b c d =
-          flip p k (U7 k n) q (upd (s .ar) k (s .ar k - (2 ^ 62 + n))) (upd bit k 0) on o e lv
+      at q h lq gq a b c d = flip p k (U7 k n) q (upd (s .ar) k (s .ar k - (2 ^ 62 + n))) (upd bit k 0) on o e lv
           (λ d ne. rw lq (refl, refl, sym (pick-other k n d (λ z. ne (sym z)))))
           (λ d ne. upd-other (s .ar) k (s .ar k - (2 ^ 62 + n)) d ne)
           (λ d ne. upd-other bit k 0 d ne)
@@ -802,14 +781,12 @@ module _ (P : ℕ) (L : Plan) (G : Lawful (L .tree)) (small : (q j : ℕ) → L 
             hi = s .hi;
           })
           (upd bit k 0))
-      by true z =
-          at (U6 (suc k)) (lowering (suc k)) refl refl
+      by true z = at (U6 (suc k)) (lowering (suc k)) refl refl
           (λ c m w. w)
           (λ c m w. w)
           (λ c w. w)
           (λ j n e. let z : _≡_ {A = ℕ} 0 1 = cc in omega arith)
-      by false z =
-          at (U8 1) shut refl refl
+      by false z = at (U8 1) shut refl refl
           (λ c m w. absurd w)
           (λ c m w. omega (arith, ltb-false (suc k) C z))
           (λ c w. w)
@@ -817,8 +794,7 @@ module _ (P : ℕ) (L : Plan) (G : Lawful (L .tree)) (small : (q j : ℕ) → L 
 
   -- rows that leave the rank's load and gate as they were
   abbrev Plain : ℕ → Place → Place → Type 0
-  Plain p f g =
-      (gateOf g (s .st (T .node p (at-level g))) ≡ gateOf f (s .st (T .node p (at-level f))))
+  Plain p f g = (gateOf g (s .st (T .node p (at-level g))) ≡ gateOf f (s .st (T .node p (at-level f))))
       × (loadOf (L .home p) g ≡ loadOf (L .home p) f)
 
   plain : (p : ℕ) (f g : Place) → s .place p ≡ f → Plain p f g → Counted P C (L .TR) (tally L (go s p g) bit)
@@ -829,8 +805,8 @@ module _ (P : ℕ) (L : Plan) (G : Lawful (L .tree)) (small : (q j : ℕ) → L 
       → gateOf g (upd (s .st) (T .node p i) u (T .node p (at-level g))) ≡ gateOf f (s .st (T .node p (at-level f)))
       → loadOf (L .home p) g ≡ loadOf (L .home p) f
       → Counted P C (L .TR) (tally L (go (put-st s (T .node p i) u) p g) bit)
-  owned p i u f g e on lv x y =
-      still (upd (s .st) (T .node p i) u) p g (x ∙ sym (gate-at T s p f e)) (y ∙ sym (ap (loadOf (L .home p)) e))
+  owned p i u f g e on lv x y = still (upd (s .st) (T .node p i) u) p g (x ∙ sym (gate-at T s p f e))
+      (y ∙ sym (ap (loadOf (L .home p)) e))
       (λ q a. gate-st p i u on lv q a)
 
   count-W6 : (p i : ℕ) → On P p → s .place p ≡ W6 i → Counted P C (L .TR) (tally L (row L s p (W6 i)) bit)
@@ -848,8 +824,8 @@ module _ (P : ℕ) (L : Plan) (G : Lawful (L .tree)) (small : (q j : ℕ) → L 
       by : (b : Bool) → leb 2 i ≡ b
           → Counted P C (L .TR) (tally L (go (put-st s (T .node p i) 0) p (cond b (W1 (pred i)) (W7 0))) bit)
       by true z = owned p i 0 (W6 i) (W1 (pred i)) e on (omega (arith, lv)) refl refl
-      by false z =
-          tallied P C (L .TR) (tally L (go s p (W7 0)) bit) (tally L (go (put-st s (T .node p i) 0) p (W7 0)) bit)
+      by false z = tallied P C (L .TR) (tally L (go s p (W7 0)) bit)
+          (tally L (go (put-st s (T .node p i) 0) p (W7 0)) bit)
           (λ q. refl)
           (split p
           (λ q. gate T (go s p (W7 0)) q ≡ gate T (go (put-st s (T .node p i) 0) p (W7 0)) q)
@@ -861,8 +837,8 @@ module _ (P : ℕ) (L : Plan) (G : Lawful (L .tree)) (small : (q j : ℕ) → L 
           (λ c. refl)
           (λ c. refl)
           (λ c. refl)
-          (turn p (W6 i) (W7 0) onp (omega (arith, on)) e (omega (arith, lv, leb-false 2 i z)) refl refl
-          (raising 0) refl
+          (turn p (W6 i) (W7 0) onp (omega (arith, on)) e (omega (arith, lv, leb-false 2 i z)) refl refl (raising 0)
+          refl
           (λ c m w. absurd (omega arith))
           (λ c m w. absurd (subst (λ h. Marks h c) (gate-at T s p (W6 i) e) w))
           (λ c m w. absurd w)
@@ -899,8 +875,7 @@ module _ (P : ℕ) (L : Plan) (G : Lawful (L .tree)) (small : (q j : ℕ) → L 
     lv = rw (n .waits) (omega arith)
 
     gate-p : gate T (go s₁ p (done L s p i)) p ≡ shut
-    gate-p =
-        gate-now T s₁ p (done L s p i)
+    gate-p = gate-now T s₁ p (done L s p i)
         ∙ cond-both (eqb i (T .top p)) idle (U8 (suc i))
         (λ g. (w : ℕ) → gateOf g w ≡ shut)
         (λ _ w. refl)
@@ -908,16 +883,14 @@ module _ (P : ℕ) (L : Plan) (G : Lawful (L .tree)) (small : (q j : ℕ) → L 
         (s₁ .st (T .node p (at-level (done L s p i))))
 
     gate-r : gate T (go s₁ p (done L s p i)) (n .rank) ≡ gateOf (W5 i) u
-    gate-r =
-        gate-other T s₁ p (done L s p i) (n .rank) r≢p
+    gate-r = gate-other T s₁ p (done L s p i) (n .rank) r≢p
         ∙ (gate-at T s₁ (n .rank) (W5 i) at-r ∙ ap (gateOf (W5 i)) (upd-same (s .st) (T .node (n .rank) i) u))
 
     gate-o : (q : ℕ) → q ≢ p → q ≢ n .rank → gate T (go s₁ p (done L s p i)) q ≡ gate T s q
     gate-o q a b = gate-other T s₁ p (done L s p i) q a ∙ gate-st (n .rank) i u (n .on) lv q b
 
     loads : loadOf (L .home p) f ≡ none → (q : ℕ) → load q ≡ load′ p (done L s p i) q
-    loads z =
-        split p
+    loads z = split p
         (λ q. load q ≡ load′ p (done L s p i) q)
         (ap (loadOf (L .home p)) e
         ∙ (z
@@ -1004,8 +977,7 @@ module _ (P : ℕ) (L : Plan) (G : Lawful (L .tree)) (small : (q j : ℕ) → L 
       g = gate-at T s p (U5 n) e
 
       lower : Counted P C (L .TR) (tally L (go s p (U6 0)) bit)
-      lower =
-          turn p (U5 n) (U6 0) onp o e (level-1 p (U5 n) e (λ w. refl)) refl refl (lowering 0) refl
+      lower = turn p (U5 n) (U6 0) onp o e (level-1 p (U5 n) e (λ w. refl)) refl refl (lowering 0) refl
           (λ c m w. rw g tt)
           (λ c m w. omega arith)
           (λ c m w. absurd w)
@@ -1023,8 +995,7 @@ module _ (P : ℕ) (L : Plan) (G : Lawful (L .tree)) (small : (q j : ℕ) → L 
     where
       by : (b : Bool)
           → Counted P C (L .TR) (tally L (cond b (go (free s (T .elem p i)) p (done L s p i)) (go s p (U8 i))) bit)
-      by true =
-          plain p (U10 i) (done L s p i) e
+      by true = plain p (U10 i) (done L s p i) e
           (two p (U10 i) (eqb i (T .top p)) idle (U8 (suc i)) (refl, refl) (refl, refl))
       by false = plain p (U10 i) (U8 i) e (refl, refl)
 
@@ -1067,9 +1038,8 @@ module _ (P : ℕ) (L : Plan) (G : Lawful (L .tree)) (small : (q j : ℕ) → L 
   count-row p on o (W2 i) e =
       let was = phase-at T s p (W2 i) e in
       owned p i WAIT (W2 i) (W3 i) e (subst (InRange (T .top p)) was (inv .range p)) (rw was (omega arith)) refl refl
-  count-row p on o (W3 i) e =
-      plain p (W3 i) (cond (eqb (s .tl (T .elem p i)) 0) (W6 i) (W4 i (s .tl (T .elem p i)))) e
-      (two p (W3 i) (eqb (s .tl (T .elem p i)) 0) (W6 i) (W4 i (s .tl (T .elem p i))) (refl, refl) (refl, refl))
+  count-row p on o (W3 i) e = plain p (W3 i) (cond (eqb (s .tl (T .elem p i)) 0) (W6 i) (W4 i (s .tl (T .elem p i))))
+      e (two p (W3 i) (eqb (s .tl (T .elem p i)) 0) (W6 i) (W4 i (s .tl (T .elem p i))) (refl, refl) (refl, refl))
   count-row p on o (W4 i t) e =
       let so = subst (Sound L (s .st) p) e (v .fine .sound p) in
       plain p (W4 i t) (W5 i) e (rw (eq-eqb (s .st (T .node p i)) WAIT (so .0)) (refl, refl))
@@ -1095,19 +1065,17 @@ module _ (P : ℕ) (L : Plan) (G : Lawful (L .tree)) (small : (q j : ℕ) → L 
   count-row p on o (U5 n) e = count-U5 p n on o e
   count-row p on o (U6 k) e = count-U6 p k on e
   count-row p on o (U7 k n) e = count-U7 p k n on o (subst (Within C) e (v .within p)) e
-  count-row p on o (U8 i) e =
-      plain p (U8 i) (cond (eqb (s .nx (T .node p i)) 0) (U10 i) (U9 i (s .nx (T .node p i)))) e
-      (two p (U8 i) (eqb (s .nx (T .node p i)) 0) (U10 i) (U9 i (s .nx (T .node p i))) (refl, refl) (refl, refl))
+  count-row p on o (U8 i) e = plain p (U8 i) (cond (eqb (s .nx (T .node p i)) 0) (U10 i) (U9 i (s .nx (T .node p i))))
+      e (two p (U8 i) (eqb (s .nx (T .node p i)) 0) (U10 i) (U9 i (s .nx (T .node p i))) (refl, refl) (refl, refl))
   count-row p on o (U9 i t) e = count-U9 p i t e
   count-row p on o (U10 i) e = count-U10 p i e
   count-row p on o R1 e = count-R1 p on e
   count-row p on o R2 e = count-R2 p on e
-  count-row p on o R3 e =
-      plain p R3 (cond (ltb (s .ar (L .home p)) (L .TR)) R1 (cond (leb (2 ^ 62) (s .ar (L .home p))) R3 R4)) e
+  count-row p on o R3 e = plain p R3
+      (cond (ltb (s .ar (L .home p)) (L .TR)) R1 (cond (leb (2 ^ 62) (s .ar (L .home p))) R3 R4)) e
       (two p R3 (ltb (s .ar (L .home p)) (L .TR)) R1 (cond (leb (2 ^ 62) (s .ar (L .home p))) R3 R4) (refl, refl)
       (two p R3 (leb (2 ^ 62) (s .ar (L .home p))) R3 R4 (refl, refl) (refl, refl)))
-  count-row p on o R4 e =
-      plain p R4 (cond (eqb (s .tl (T .elem p 1)) 0) R5 R3) e
+  count-row p on o R4 e = plain p R4 (cond (eqb (s .tl (T .elem p 1)) 0) R5 R3) e
       (two p R4 (eqb (s .tl (T .elem p 1)) 0) R5 R3 (refl, refl) (refl, refl))
   count-row p on o R5 e = count-R5 p on e
   count-row p on o (R6 n) e = count-R6 p n on e
@@ -1117,8 +1085,7 @@ module _ (P : ℕ) (L : Plan) (G : Lawful (L .tree)) (small : (q j : ℕ) → L 
 
   -- the counter's number of the new place is in range
   within-row : (p : ℕ) (g : Place) → Within C g → (q : ℕ) → Within C (upd (s .place) p g q)
-  within-row p g h =
-      split p
+  within-row p g h = split p
       (λ q. Within C (upd (s .place) p g q))
       (rw (upd-same (s .place) p g) h)
       (λ q a. rw (upd-other (s .place) p g q a) (v .within q))
@@ -1140,33 +1107,24 @@ module _ (P : ℕ) (L : Plan) (G : Lawful (L .tree)) (small : (q j : ℕ) → L 
   within-all p idle e = v .within
   within-all p (W1 i) e = within-row p (W2 i) (tt)
   within-all p (W2 i) e = within-row p (W3 i) (tt)
-  within-all p (W3 i) e =
-      within-row p (cond (eqb (s .tl (T .elem p i)) 0) (W6 i) (W4 i (s .tl (T .elem p i))))
+  within-all p (W3 i) e = within-row p (cond (eqb (s .tl (T .elem p i)) 0) (W6 i) (W4 i (s .tl (T .elem p i))))
       (cond-both (eqb (s .tl (T .elem p i)) 0) (W6 i) (W4 i (s .tl (T .elem p i))) (Within C) (λ _. tt) (λ _. tt))
   within-all p (W4 i t) e = within-row p (W5 i) (tt)
-  within-all p (W5 i) e =
-      within-W5 p i (eqb (s .st (T .node p i)) WAIT) (leb (s .st (T .node p i)) 1000)
+  within-all p (W5 i) e = within-W5 p i (eqb (s .st (T .node p i)) WAIT) (leb (s .st (T .node p i)) 1000)
       (eqb (s .st (T .node p i)) (tell i))
-  within-all p (W6 i) e =
-      within-row p (cond (leb 2 i) (W1 (pred i)) (W7 0))
+  within-all p (W6 i) e = within-row p (cond (leb 2 i) (W1 (pred i)) (W7 0))
       (cond-both (leb 2 i) (W1 (pred i)) (W7 0) (Within C) (λ _. tt) (λ _. omega (arith, homes p)))
-  within-all p (W7 k) e =
-      within-row p (next L s p k (W8 0) W7)
+  within-all p (W7 k) e = within-row p (next L s p k (W8 0) W7)
       (cond-both (ltb (suc k) C) (W7 (suc k)) (W8 0) (Within C)
       (λ z. ltb-true (suc k) C z)
       (λ _. omega (arith, homes p)))
   within-all p (W8 k) e = within-row p (W9 k (s .ar k)) (subst (Within C) e (v .within p))
-  within-all p (W9 k n) e =
-      within-row p (cond (eqb n (2 ^ 62 + s .de k)) (next L s p k writes W8) (W8 k))
+  within-all p (W9 k n) e = within-row p (cond (eqb n (2 ^ 62 + s .de k)) (next L s p k writes W8) (W8 k))
       (cond-both (eqb n (2 ^ 62 + s .de k)) (next L s p k writes W8) (W8 k) (Within C)
-      (λ _.
-      cond-both (ltb (suc k) C) (W8 (suc k)) (writes) (Within C)
-      (λ z. ltb-true (suc k) C z)
-      (λ _. tt))
+      (λ _. cond-both (ltb (suc k) C) (W8 (suc k)) (writes) (Within C) (λ z. ltb-true (suc k) C z) (λ _. tt))
       (λ _. subst (Within C) e (v .within p)))
   within-all p (U1 i) e = within-row p (U2 i (s .st (T .node p i))) (tt)
-  within-all p (U2 i n) e =
-      within-row p
+  within-all p (U2 i n) e = within-row p
       (cond (eqb (s .nx (T .node p i)) 0) (cond (leb i 2) U4 (U1 (pred i)))
       (cond (ltb n (L .cap p i)) (U3 i (s .nx (T .node p i)) (suc n)) (cond (leb i 2) U4 (U1 (pred i)))))
       (cond-both (eqb (s .nx (T .node p i)) 0) (cond (leb i 2) U4 (U1 (pred i)))
@@ -1181,8 +1139,7 @@ module _ (P : ℕ) (L : Plan) (G : Lawful (L .tree)) (small : (q j : ℕ) → L 
   within-all p (U3 i t n) e =
       within-row p (done L s p i) (cond-both (eqb i (T .top p)) (idle) (U8 (suc i)) (Within C) (λ _. tt) (λ _. tt))
   within-all p U4 e = within-row p (U5 (s .st (T .node p 1))) (tt)
-  within-all p (U5 n) e =
-      within-row p
+  within-all p (U5 n) e = within-row p
       (cond (eqb (s .nx (T .node p 1)) 0) (U6 0)
       (cond (ltb n (L .cap p 1)) (U3 1 (s .nx (T .node p 1)) (suc n)) (U6 0)))
       (cond-both (eqb (s .nx (T .node p 1)) 0) (U6 0)
@@ -1193,28 +1150,22 @@ module _ (P : ℕ) (L : Plan) (G : Lawful (L .tree)) (small : (q j : ℕ) → L 
       (λ _. tt)
       (λ _. omega (arith, homes p))))
   within-all p (U6 k) e = within-row p (U7 k (s .de k)) (subst (Within C) e (v .within p))
-  within-all p (U7 k n) e =
-      within-row p (next L s p k (U8 1) U6)
+  within-all p (U7 k n) e = within-row p (next L s p k (U8 1) U6)
       (cond-both (ltb (suc k) C) (U6 (suc k)) (U8 1) (Within C) (λ z. ltb-true (suc k) C z) (λ _. tt))
-  within-all p (U8 i) e =
-      within-row p (cond (eqb (s .nx (T .node p i)) 0) (U10 i) (U9 i (s .nx (T .node p i))))
-      (cond-both (eqb (s .nx (T .node p i)) 0) (U10 i) (U9 i (s .nx (T .node p i))) (Within C)
-      (λ _. tt)
-      (λ _. tt))
+  within-all p (U8 i) e = within-row p (cond (eqb (s .nx (T .node p i)) 0) (U10 i) (U9 i (s .nx (T .node p i))))
+      (cond-both (eqb (s .nx (T .node p i)) 0) (U10 i) (U9 i (s .nx (T .node p i))) (Within C) (λ _. tt) (λ _. tt))
   within-all p (U9 i t) e =
       within-row p (done L s p i) (cond-both (eqb i (T .top p)) (idle) (U8 (suc i)) (Within C) (λ _. tt) (λ _. tt))
   within-all p (U10 i) e = within-U10 p i (eqb (s .tl (T .elem p i)) (T .node p i))
-  within-all p R1 e =
-      within-row p (cond (ltb (s .ar (L .home p)) (L .TR)) reads R2)
+  within-all p R1 e = within-row p (cond (ltb (s .ar (L .home p)) (L .TR)) reads R2)
       (cond-both (ltb (s .ar (L .home p)) (L .TR)) (reads) (R2) (Within C) (λ _. tt) (λ _. tt))
   within-all p R2 e = within-row p (R3) (tt)
-  within-all p R3 e =
-      within-row p (cond (ltb (s .ar (L .home p)) (L .TR)) R1 (cond (leb (2 ^ 62) (s .ar (L .home p))) R3 R4))
+  within-all p R3 e = within-row p
+      (cond (ltb (s .ar (L .home p)) (L .TR)) R1 (cond (leb (2 ^ 62) (s .ar (L .home p))) R3 R4))
       (cond-both (ltb (s .ar (L .home p)) (L .TR)) (R1) (cond (leb (2 ^ 62) (s .ar (L .home p))) R3 R4) (Within C)
       (λ _. tt)
       (λ _. cond-both (leb (2 ^ 62) (s .ar (L .home p))) (R3) (R4) (Within C) (λ _. tt) (λ _. tt)))
-  within-all p R4 e =
-      within-row p (cond (eqb (s .tl (T .elem p 1)) 0) R5 R3)
+  within-all p R4 e = within-row p (cond (eqb (s .tl (T .elem p 1)) 0) R5 R3)
       (cond-both (eqb (s .tl (T .elem p 1)) 0) (R5) (R3) (Within C) (λ _. tt) (λ _. tt))
   within-all p R5 e = within-row p (R6 (s .de (L .home p))) (tt)
   within-all p (R6 n) e = within-row p (R3) (tt)
@@ -1252,11 +1203,9 @@ module _ (P : ℕ) (L : Plan) (G : Lawful (L .tree)) (small : (q j : ℕ) → L 
   safe-leave-write p e =
       record {
         fine = fine-leave-write L G small s (v .fine) p e;
-        counted =
-            plain p writes (cond (leb (T .top p) 1) U4 (U1 (T .top p))) e
+        counted = plain p writes (cond (leb (T .top p) 1) U4 (U1 (T .top p))) e
             (two p writes (leb (T .top p) 1) U4 (U1 (T .top p)) (refl, refl) (refl, refl));
-        within =
-            within-row p (cond (leb (T .top p) 1) U4 (U1 (T .top p)))
+        within = within-row p (cond (leb (T .top p) 1) U4 (U1 (T .top p)))
             (cond-both (leb (T .top p) 1) U4 (U1 (T .top p)) (Within C) (λ _. tt) (λ _. tt));
       }
 
@@ -1270,8 +1219,7 @@ module _ (P : ℕ) (L : Plan) (G : Lawful (L .tree)) (small : (q j : ℕ) → L 
 
   -- a writer is in: no reader is
   pub no-reader : (p q : ℕ) → On (T .top q) 1 → s .place p ≡ writes → s .place q ≡ reads → ⊥
-  no-reader p q o a b =
-      v .counted .kept p (L .home q) (homes q) (rw (gate-at T s p writes a) tt) q (ranks q o)
+  no-reader p q o a b = v .counted .kept p (L .home q) (homes q) (rw (gate-at T s p writes a) tt) q (ranks q o)
       (ap (loadOf (L .home q)) b)
 
 pub safe-start : (P : ℕ) (L : Plan) → Safe P L fresh-lock (λ c. 0)
@@ -1279,15 +1227,9 @@ safe-start P L =
     record {
       fine = fine-start L;
       counted = record {
-        each =
-            λ c l.
+        each = λ c l.
             let z = total-zero P in
-            record {
-              sum = omega arith;
-              small = omega arith;
-              bits = omega arith;
-              stands = λ w. absurd (omega arith);
-            };
+            record { sum = omega arith; small = omega arith; bits = omega arith; stands = λ w. absurd (omega arith) };
         marked = λ p c l w. absurd w;
         kept = λ p c l w. absurd w;
         seen = λ p k n e. absurd (subst (λ g. Marks g k) (sym e) tt);

@@ -137,11 +137,10 @@ module _ (P : ℕ) (L : Plan) (g : Apt P L) where
   -- the end of a macro of the rank p
   ends : (s t : Lock) (p : ℕ) → On P p → Quiet s → Good P L t → ((q : ℕ) → q ≢ p → t .place q ≡ s .place q)
       → stage-1 (t .place p) ≡ 0 → stage-2 p (t .place p) < stage-2 p (s .place p) → Reach P L (Less s) t
-  ends s t p on v w e z l =
-      here t (
-        (w, split p (λ q. On P q → stage-1 (t .place q) ≡ 0) (λ _. z) (λ q a o. ap stage-1 (e q a) ∙ v .1 q o)),
-        lowers P L g stage-2 s t p on e l,
-      )
+  ends s t p on v w e z l = here t (
+    (w, split p (λ q. On P q → stage-1 (t .place q) ≡ 0) (λ _. z) (λ q a o. ap stage-1 (e q a) ∙ v .1 q o)),
+    lowers P L g stage-2 s t p on e l,
+  )
 
   -- one move
   one-move : (s : Lock) → Quiet s → (p : ℕ) → On P p → (f : Place) → s .place p ≡ f → Able L s p f
@@ -168,8 +167,7 @@ module _ (P : ℕ) (L : Plan) (g : Apt P L) where
 
   -- the counter is drained: W8 reads what W9 wants
   drained : (s : Lock) → Quiet s → (p k n : ℕ) → On P p → s .place p ≡ W9 k n → k < C → s .ar k ≡ 2 ^ 62 + s .de k
-  drained s v p k n on e lt =
-      passes P C (L .TR) (tally L s (v .0 .bit)) (v .0 .safe .counted) k lt
+  drained s v p k n on e lt = passes P C (L .TR) (tally L s (v .0 .bit)) (v .0 .safe .counted) k lt
       (v .0 .safe .counted .marked p k lt (subst (λ x. Marks x k) (sym (gate-at T s p (W9 k n) e)) tt))
       (λ q o. nothing q o (loads (L .home q) (s .place q) k (v .1 q o)))
     where
@@ -266,21 +264,18 @@ module _ (P : ℕ) (L : Plan) (g : Apt P L) where
           (rw e (falls L s₂ p (U9 i t) (omega (arith, g .sensible .homes p)) (g .all p on) oi)))
 
       second : t ≢ 0 → Good P L s₁ → Reach P L (Less s) s₁
-      second z w =
-          by-step P L g (Less s) s₁ w p on (U8 i) (upd-same (s .place) p (U8 i)) (omega arith)
+      second z w = by-step P L g (Less s) s₁ w p on (U8 i) (upd-same (s .place) p (U8 i)) (omega arith)
           (rw (ne-eqb t 0 z) third)
 
       other : s .tl (T .elem p i) ≢ T .node p i → (m : Follower T (view T s) p i)
           → ((phase T s (m .rank) ≡ wait i) × (t ≡ T .node (m .rank) i))
           ⊎ (phase T s (m .rank) ≡ link i (T .node p i)) → Reach P L (Less s) s
-      other z m (inl y) =
-          by-step P L g (Less s) s (v .0) p on (U10 i) e (omega arith)
+      other z m (inl y) = by-step P L g (Less s) s (v .0) p on (U10 i) e (omega arith)
           (rw (ne-eqb (s .tl (T .elem p i)) (T .node p i) z)
           (second (λ x. g .sensible .tree .no-zero (m .rank) i (m .on) (sym (y .1) ∙ x))))
-      other z m (inr y) =
-          one-move s v (m .rank) (g .sensible .ranks (m .rank) (omega (arith, m .on))) (W4 i (T .node p i))
-          (only-W4 (s .place (m .rank)) (s .st (T .node (m .rank) (at-level (s .place (m .rank))))) i
-          (T .node p i) y)
+      other z m (inr y) = one-move s v (m .rank) (g .sensible .ranks (m .rank) (omega (arith, m .on)))
+          (W4 i (T .node p i))
+          (only-W4 (s .place (m .rank)) (s .st (T .node (m .rank) (at-level (s .place (m .rank))))) i (T .node p i) y)
           tt
 
       by : (s .tl (T .elem p i) ≡ T .node p i) ⊎ (s .tl (T .elem p i) ≡ T .node p i → ⊥) → Reach P L (Less s) s
@@ -290,10 +285,9 @@ module _ (P : ℕ) (L : Plan) (g : Apt P L) where
   -- a rank that does not wait
   free-move : (s : Lock) → Quiet s → (p : ℕ) → On P p → ((i : ℕ) → phase T s p ≢ wait i) → 0 < stage-2 p (s .place p)
       → Reach P L (Less s) s
-  free-move s v p on n h =
-      by
-      (able-or L s p (s .place p) (g .sensible .small) (v .0 .safe .fine .queues .range p)
-      (v .0 .safe .fine .sound p) (v .0 .safe .within p) (no-wait (phase T s p) n) h)
+  free-move s v p on n h = by
+      (able-or L s p (s .place p) (g .sensible .small) (v .0 .safe .fine .queues .range p) (v .0 .safe .fine .sound p)
+      (v .0 .safe .within p) (no-wait (phase T s p) n) h)
     where
       odd : (s .place p ≡ writes) ⊎ (((k : ℕ) × (n : ℕ) × (s .place p ≡ W9 k n)) ⊎ ((i : ℕ) × (s .place p ≡ U10 i)))
           → Reach P L (Less s) s

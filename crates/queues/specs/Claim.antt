@@ -43,6 +43,5 @@ pub data Jobs (P : ℕ) (L : Plan) : Lock → Type 0 where
   left-read : (s : Lock) (p : ℕ) → On P p → s .place p ≡ reads → Jobs P L s → Jobs P L (go s p R7)
 
 abbrev pub Exclusion : Type 0
-Exclusion =
-    (P : ℕ) (L : Plan) → Sensible P L → (s : Lock) → Jobs P L s → (p q : ℕ) → On (L .tree .top p) 1
+Exclusion = (P : ℕ) (L : Plan) → Sensible P L → (s : Lock) → Jobs P L s → (p q : ℕ) → On (L .tree .top p) 1
     → On (L .tree .top q) 1 → s .place p ≡ writes → (s .place q ≡ writes → p ≡ q) × (s .place q ≡ reads → ⊥)

@@ -179,16 +179,14 @@ module _ (L : Plan) (s : Lock) (p : ℕ) where
   row (W2 i) = go (put-st s (x i) WAIT) p (W3 i)
   row (W3 i) = go (join s (k i) (x i)) p (cond (eqb (s .tl (k i)) 0) (W6 i) (W4 i (s .tl (k i))))
   row (W4 i t) = go (put-nx s t (x i)) p (W5 i)
-  row (W5 i) =
-      cond (eqb (s .st (x i)) WAIT) s
+  row (W5 i) = cond (eqb (s .st (x i)) WAIT) s
       (cond (leb (s .st (x i)) 1000) (go s p writes) (cond (eqb (s .st (x i)) (tell i)) (go s p (W6 i)) s))
   row (W6 i) = go (put-st s (x i) 0) p (cond (leb 2 i) (W1 (pred i)) (W7 0))
   row (W7 n) = go (put-ar s n (s .ar n + 2 ^ 62)) p (next n (W8 0) W7)
   row (W8 n) = go s p (W9 n (s .ar n))
   row (W9 n a) = go s p (cond (eqb a (2 ^ 62 + s .de n)) (next n writes W8) (W8 n))
   row (U1 i) = go s p (U2 i (s .st (x i)))
-  row (U2 i n) =
-      go s p
+  row (U2 i n) = go s p
       (cond (eqb (s .nx (x i)) 0) (cond (leb i 2) U4 (U1 (pred i)))
       (cond (ltb n (L .cap p i)) (U3 i (s .nx (x i)) (suc n)) (cond (leb i 2) U4 (U1 (pred i)))))
   row (U3 i t n) = go (drop (put-st s t n) (k i)) p (done i)
@@ -294,8 +292,7 @@ Sound L st p (W1 i) = Counts L st p (suc i)
 Sound L st p (W2 i) = Counts L st p (suc i)
 Sound L st p (W3 i) = (st (L .tree .node p i) ≡ WAIT) × Counts L st p (suc i)
 Sound L st p (W4 i t) = (st (L .tree .node p i) ≡ WAIT) × Counts L st p (suc i)
-Sound L st p (W5 i) =
-    On (L .tree .top p) i × Counts L st p (suc i)
+Sound L st p (W5 i) = On (L .tree .top p) i × Counts L st p (suc i)
     × ((st (L .tree .node p i) ≡ WAIT) ⊎ ((st (L .tree .node p i) ≡ tell i) ⊎ Counts L st p 1))
 Sound L st p (W6 i) = Counts L st p (suc i)
 Sound L st p (W7 n) = Counts L st p 1

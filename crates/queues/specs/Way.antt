@@ -35,8 +35,7 @@ Accepts L s p (W1 i) = On (L .tree .top p) i
 Accepts L s p (W2 i) = On (L .tree .top p) i
 Accepts L s p (W3 i) = On (L .tree .top p) i
 Accepts L s p (W4 i t) = On (L .tree .top p) i × Node (L .tree) t
-Accepts L s p (W5 i) =
-    On (L .tree .top p) i
+Accepts L s p (W5 i) = On (L .tree .top p) i
     × ((s .st (L .tree .node p i) ≡ WAIT)
     ⊎ ((s .st (L .tree .node p i) ≡ tell i) ⊎ (s .st (L .tree .node p i) ≤ 1000)))
 Accepts L s p (W6 i) = On (L .tree .top p) i
@@ -130,6 +129,5 @@ pub record Apt (P : ℕ) (L : Plan) : Type 0 where
   pub less : L .TR < F
 
 abbrev pub WayBack : Type 0
-WayBack =
-    (P : ℕ) (L : Plan) → Apt P L → (s : Lock) → Jobs P L s
+WayBack = (P : ℕ) (L : Plan) → Apt P L → (s : Lock) → Jobs P L s
     → (ms : List Move) × Plays P L s ms × AtRest P L (play L s ms)
