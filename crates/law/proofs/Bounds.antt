@@ -31,12 +31,12 @@ module _ (t : Tree) (G : Geometry t) (s : Lock) (bit : ℕ → ℕ) (v : Safe (t
   abbrev loads : ℕ → Load
   loads q = loadOf (machine-plan t .home q) (s .place q)
 
-  pub small : (c : ℕ) → c < counters t → (s .ar c ≤ 2 ^ 62 + 1001024) × (s .de c ≤ 1000000)
+  pub small : (c : ℕ) → c < counters t → (s .arrives c ≤ 2 ^ 62 + 1001024) × (s .departs c ≤ 1000000)
   small c l =
       let w : Count P (t .shape .«reader_threshold») (tally (machine-plan t) s bit) c = v .counted .each c l in
       let t = total-le P (λ q. tries (loads q) c) (λ q. tries-one (loads q) c) in omega (arith, G .few, G .limit)
 
-  pub at-U7 : (p k n : ℕ) → On P p → k < counters t → s .place p ≡ U7 k n → (2 ^ 62 + n ≤ s .ar k) × (n ≤ 1000000)
+  pub at-U7 : (p k n : ℕ) → On P p → k < counters t → s .place p ≡ U7 k n → (2 ^ 62 + n ≤ s .arrives k) × (n ≤ 1000000)
   at-U7 p k n on l e =
       let w : Count P (t .shape .«reader_threshold») (tally (machine-plan t) s bit) k = v .counted .each k l in
       let b : bit k ≡ 1 =
@@ -44,7 +44,7 @@ module _ (t : Tree) (G : Geometry t) (s : Lock) (bit : ℕ → ℕ) (v : Safe (t
       let z : clears (loads p) k ≡ n = rw e (pick-same k n) in
       let t = total-part P (λ q. clears (loads q) k) p on in omega (arith, G .limit)
 
-  pub at-R2 : (p : ℕ) → On P p → s .place p ≡ R2 → 1 ≤ s .ar (machine-plan t .home p)
+  pub at-R2 : (p : ℕ) → On P p → s .place p ≡ R2 → 1 ≤ s .arrives (machine-plan t .home p)
   at-R2 p on e =
       let c = machine-plan t .home p in
       let w : Count P (t .shape .«reader_threshold») (tally (machine-plan t) s bit) c =
@@ -52,7 +52,7 @@ module _ (t : Tree) (G : Geometry t) (s : Lock) (bit : ℕ → ℕ) (v : Safe (t
       let z : tries (loads p) c ≡ 1 = rw e (pick-same c 1) in
       let t = total-part P (λ q. tries (loads q) c) p on in omega arith
 
-  pub at-R6 : (p n : ℕ) → On P p → s .place p ≡ R6 n → (n ≤ s .ar (machine-plan t .home p)) × (n ≤ 1000000)
+  pub at-R6 : (p n : ℕ) → On P p → s .place p ≡ R6 n → (n ≤ s .arrives (machine-plan t .home p)) × (n ≤ 1000000)
   at-R6 p n on e =
       let c = machine-plan t .home p in
       let w : Count P (t .shape .«reader_threshold») (tally (machine-plan t) s bit) c =

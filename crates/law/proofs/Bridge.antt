@@ -55,11 +55,11 @@ pub record Shows (t : Tree) (ws : Words) (rs : List Record) (s : Lock) : Type 0 
   pub ranks : t .shape .ranks ≤ length rs
   pub room : homes t ≤ ws .count
   pub places : (p : ℕ) → On (t .shape .ranks) p → record-at rs p ≡ recorded (s .place p)
-  pub nexts : (h : ℕ) → On (homes t) h → ws .word h 0 ≡ s .nx h
-  pub statuses : (h : ℕ) → On (homes t) h → ws .word h 1 ≡ s .st h
-  pub tails : (h : ℕ) → On (homes t) h → ws .word h 2 ≡ s .tl h
-  pub arrives : (c : ℕ) → c < counters t → ws .word (counter-home t c) 3 ≡ s .ar c
-  pub departs : (c : ℕ) → c < counters t → ws .word (counter-home t c) 4 ≡ s .de c
+  pub nexts : (h : ℕ) → On (homes t) h → ws .word h 0 ≡ s .nexts h
+  pub statuses : (h : ℕ) → On (homes t) h → ws .word h 1 ≡ s .statuses h
+  pub tails : (h : ℕ) → On (homes t) h → ws .word h 2 ≡ s .tails h
+  pub arrives : (c : ℕ) → c < counters t → ws .word (counter-home t c) 3 ≡ s .arrives c
+  pub departs : (c : ℕ) → c < counters t → ws .word (counter-home t c) 4 ≡ s .departs c
 
 -- an access that is not refused: the word that it gives, and the words after it
 abbrev pub gives : Words → ℕ → ℕ → Operation → ℕ

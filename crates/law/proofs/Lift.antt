@@ -37,14 +37,15 @@ use Rattle.lock.specs.Outcomes.{Outcome, placed, refused}
 use Rattle.lock.specs.Steps.{followed, row-next, row-words, stepped-from, stepped-to}
 use Rattle.queues.specs.Machine.{On}
 use Rattle.queues.specs.Rows.{Place, idle, W1, W2, W3, W4, W5, W6, W7, W8, W9, U1, U2, U3, U4, U5, U6, U7, U8, U9, U10}
-use Rattle.queues.specs.Rows.{R1, R2, R3, R4, R5, R6, R7, writes, reads, WAIT, tell, Plan, Lock, upd, go, put-nx}
-use Rattle.queues.specs.Rows.{put-st}
-use Rattle.queues.specs.Rows.{put-ar, put-de, join, drop, free, done, next, row, Sound, Counts}
+use Rattle.queues.specs.Rows.{R1, R2, R3, R4, R5, R6, R7, writes, reads, WAIT, tell, Plan, Lock, upd, go, put-next}
+use Rattle.queues.specs.Rows.{put-status}
+use Rattle.queues.specs.Rows.{put-arrive, put-depart, join, drop, free, done, next, row, Sound, Counts}
 use Rattle.queues.specs.Whole.{Safe}
 use Rattle.queues.proofs.View.{upd-same, upd-other, tell-big}
 use Rattle.law.proofs.Bridge.{machine-plan, Geometry, Ranged, Shows, Stepped, Goes, gives, effect}
-use Rattle.law.proofs.Shows.{done-by, shows-nx, shows-st, shows-join, shows-free, shows-drop, shows-go, shows-stay}
-use Rattle.law.proofs.Shows.{shows-ar, shows-de}
+use Rattle.law.proofs.Shows.{done-by, shows-next, shows-status, shows-join, shows-free, shows-drop, shows-go}
+use Rattle.law.proofs.Shows.{shows-stay}
+use Rattle.law.proofs.Shows.{shows-arrive, shows-depart}
 use Rattle.law.proofs.Ranged.{ranged, reaches, Reach}
 use Rattle.law.proofs.Bounds.{small, at-U7, at-R2, at-R6}
 
@@ -118,10 +119,11 @@ module _ (t : Tree) (G : Geometry t) (ws : Words) (rs : List Record) (s : Lock) 
     L = machine-plan t
 
     -- a step whose access is not refused
-    outcome : (f : Place) (at : ℕ) (o : ℕ) (op : Operation) → access-of t p f ≡ Some (access at o op) → On (homes t) at
-        → leb o 4 ≡ true → (g : Place) (a : Answer)
+    outcome : (f : Place) (at : ℕ) (o : ℕ) (op : Operation) → access-of t p f ≡ Some (access at o op)
+        → On (homes t) at → leb o 4 ≡ true → (g : Place) (a : Answer)
         → next-of t p f (gives ws at o op) ≡ Ok (record { place = g; answer = a })
-        → stepped-from t ws rs p (Some f) ≡ record { answer = Ok a; words = effect ws at o op; records = placed rs p g }
+        → stepped-from t ws rs p (Some f)
+        ≡ record { answer = Ok a; words = effect ws at o op; records = placed rs p g }
     outcome f at o op e on-at l g a n =
         let z = done-by ws at o op (omega (arith, h .room)) (leb-true o 4 l) in
         ap (λ x. stepped-to ws (row-words ws x) rs p (row-next t ws p f x)) e
@@ -187,34 +189,35 @@ module _ (t : Tree) (G : Geometry t) (ws : Words) (rs : List Record) (s : Lock) 
     NoMore f = (standing-at f ≢ UnderWay) × (stepped-from t ws rs p (Some f) ≡ refused ws rs NotUnderWay)
 
     -- an operation that only reads a word of the lock
-    reads-st : (f : Place) (i : ℕ) → access-of t p f ≡ Some (access (x i) 1 Get) → On (homes t) (x i) → (g : Place)
-        → Goes (next-of t p f (s .st (x i))) g → Stepped t s p f (stepped-from t ws rs p (Some f)) (go s p g)
-    reads-st f i e at g n = carried f (x i) 1 Get e at refl (s .st (x i)) (h .statuses (x i) at) g n s refl h
+    reads-status : (f : Place) (i : ℕ) → access-of t p f ≡ Some (access (x i) 1 Get) → On (homes t) (x i) → (g : Place)
+        → Goes (next-of t p f (s .statuses (x i))) g → Stepped t s p f (stepped-from t ws rs p (Some f)) (go s p g)
+    reads-status f i e at g n = carried f (x i) 1 Get e at refl (s .statuses (x i)) (h .statuses (x i) at) g n s refl h
 
-    reads-nx : (f : Place) (i : ℕ) → access-of t p f ≡ Some (access (x i) 0 Get) → On (homes t) (x i) → (g : Place)
-        → Goes (next-of t p f (s .nx (x i))) g → Stepped t s p f (stepped-from t ws rs p (Some f)) (go s p g)
-    reads-nx f i e at g n = carried f (x i) 0 Get e at refl (s .nx (x i)) (h .nexts (x i) at) g n s refl h
+    reads-next : (f : Place) (i : ℕ) → access-of t p f ≡ Some (access (x i) 0 Get) → On (homes t) (x i) → (g : Place)
+        → Goes (next-of t p f (s .nexts (x i))) g → Stepped t s p f (stepped-from t ws rs p (Some f)) (go s p g)
+    reads-next f i e at g n = carried f (x i) 0 Get e at refl (s .nexts (x i)) (h .nexts (x i) at) g n s refl h
 
     -- an addition to a counter that does not wrap
-    adds-ar : (f : Place) (k w y : ℕ) → k < counters t → access-of t p f ≡ Some (access (counter-home t k) 3 (Add w))
-        → (s .ar k + w) % 2 ^ 64 ≡ y → (g : Place) → Goes (next-of t p f (s .ar k)) g
-        → Stepped t s p f (stepped-from t ws rs p (Some f)) (go (put-ar s k y) p g)
-    adds-ar f k w y l e m g n = carried f (counter-home t k) 3 (Add w) e (G .counter-in k l) refl (s .ar k)
-        (h .arrives k l) g n (put-ar s k y) refl
-        (shows-ar t ws rs s h (G .counter-one) k ((ws .word (counter-home t k) 3 + w) % 2 ^ 64) y
+    adds-arrive : (f : Place) (k w y : ℕ) → k < counters t
+        → access-of t p f ≡ Some (access (counter-home t k) 3 (Add w)) → (s .arrives k + w) % 2 ^ 64 ≡ y → (g : Place)
+        → Goes (next-of t p f (s .arrives k)) g
+        → Stepped t s p f (stepped-from t ws rs p (Some f)) (go (put-arrive s k y) p g)
+    adds-arrive f k w y l e m g n = carried f (counter-home t k) 3 (Add w) e (G .counter-in k l) refl (s .arrives k)
+        (h .arrives k l) g n (put-arrive s k y) refl
+        (shows-arrive t ws rs s h (G .counter-one) k ((ws .word (counter-home t k) 3 + w) % 2 ^ 64) y
         (ap (λ z. (z + w) % 2 ^ 64) (h .arrives k l) ∙ m))
 
-    swaps-de : (f : Place) (k : ℕ) → k < counters t → access-of t p f ≡ Some (access (counter-home t k) 4 (Swap 0))
-        → (g : Place) → Goes (next-of t p f (s .de k)) g
-        → Stepped t s p f (stepped-from t ws rs p (Some f)) (go (put-de s k 0) p g)
-    swaps-de f k l e g n = carried f (counter-home t k) 4 (Swap 0) e (G .counter-in k l) refl (s .de k) (h .departs k l)
-        g n (put-de s k 0) refl (shows-de t ws rs s h (G .counter-one) k 0 0 refl)
+    swaps-depart : (f : Place) (k : ℕ) → k < counters t → access-of t p f ≡ Some (access (counter-home t k) 4 (Swap 0))
+        → (g : Place) → Goes (next-of t p f (s .departs k)) g
+        → Stepped t s p f (stepped-from t ws rs p (Some f)) (go (put-depart s k 0) p g)
+    swaps-depart f k l e g n = carried f (counter-home t k) 4 (Swap 0) e (G .counter-in k l) refl (s .departs k)
+        (h .departs k l) g n (put-depart s k 0) refl (shows-depart t ws rs s h (G .counter-one) k 0 0 refl)
 
     goes-down : (i : ℕ) → On (own-level t p) i → Goes (level-done t p i) (done L s p i)
     goes-down i o = goes-done (own-level t p) i (o .upto)
 
     lift-W5 : (i : ℕ) → s .place p ≡ W5 i → Lifts (W5 i)
-    lift-W5 i e = by (subst (Sound L (s .st) p) e (v .fine .sound p) .2)
+    lift-W5 i e = by (subst (Sound L (s .statuses) p) e (v .fine .sound p) .2)
       where
         at : On (homes t) (x i)
         at = re (W5 i) e
@@ -222,143 +225,145 @@ module _ (t : Tree) (G : Geometry t) (ws : Words) (rs : List Record) (s : Lock) 
         o : On (own-level t p) i
         o = rg (W5 i) e
 
-        moves-on : (g : Place) → Goes (next-of t p (W5 i) (s .st (x i))) g → row L s p (W5 i) ≡ go s p g → Lifts (W5 i)
-        moves-on g n z =
-            subst (Stepped t s p (W5 i) (stepped-from t ws rs p (Some (W5 i)))) (sym z) (reads-st (W5 i) i refl at g n)
+        moves-on : (g : Place) → Goes (next-of t p (W5 i) (s .statuses (x i))) g → row L s p (W5 i) ≡ go s p g
+            → Lifts (W5 i)
+        moves-on g n z = subst (Stepped t s p (W5 i) (stepped-from t ws rs p (Some (W5 i)))) (sym z)
+            (reads-status (W5 i) i refl at g n)
 
-        by : (s .st (x i) ≡ WAIT) ⊎ ((s .st (x i) ≡ tell i) ⊎ Counts L (s .st) p 1) → Lifts (W5 i)
+        by : (s .statuses (x i) ≡ WAIT) ⊎ ((s .statuses (x i) ≡ tell i) ⊎ Counts L (s .statuses) p 1) → Lifts (W5 i)
         by (inl z) = subst (Stepped t s p (W5 i) (stepped-from t ws rs p (Some (W5 i))))
-            (sym (w5-waits s (go s p writes) (go s p (W6 i)) (s .st (x i)) i z))
-            (carries (W5 i) (x i) 1 Get refl at refl (s .st (x i)) (h .statuses (x i) at) (W5 i)
-            (goes-wait t p i (s .st (x i)) z) s e
+            (sym (w5-waits s (go s p writes) (go s p (W6 i)) (s .statuses (x i)) i z))
+            (carries (W5 i) (x i) 1 Get refl at refl (s .statuses (x i)) (h .statuses (x i) at) (W5 i)
+            (goes-wait t p i (s .statuses (x i)) z) s e
             (λ q ne. refl)
             (shows-stay t ws rs s h p on (W5 i) e))
-        by (inr (inl z)) = moves-on (W6 i) (goes-told t p i (s .st (x i)) (o .from) z)
-            (w5-told s (go s p writes) (go s p (W6 i)) (s .st (x i)) i z)
+        by (inr (inl z)) = moves-on (W6 i) (goes-told t p i (s .statuses (x i)) (o .from) z)
+            (w5-told s (go s p writes) (go s p (W6 i)) (s .statuses (x i)) i z)
         by (inr (inr z)) =
-            let m : s .st (x i) ≤ 1000 = z i (o .from) (o .upto) in
-            moves-on writes (goes-count t p i (s .st (x i)) m)
-            (w5-counts s (go s p writes) (go s p (W6 i)) (s .st (x i)) i m)
+            let m : s .statuses (x i) ≤ 1000 = z i (o .from) (o .upto) in
+            moves-on writes (goes-count t p i (s .statuses (x i)) m)
+            (w5-counts s (go s p writes) (go s p (W6 i)) (s .statuses (x i)) i m)
 
     lift-U10 : (i : ℕ) → s .place p ≡ U10 i → Lifts (U10 i)
-    lift-U10 i e = by (eqb (s .tl (q i)) (x i)) refl
+    lift-U10 i e = by (eqb (s .tails (q i)) (x i)) refl
       where
         at : On (homes t) (q i)
         at = re (U10 i) e
 
-        d : ws .word (q i) 2 ≡ s .tl (q i)
+        d : ws .word (q i) 2 ≡ s .tails (q i)
         d = h .tails (q i) at
 
-        by : (b : Bool) → eqb (s .tl (q i)) (x i) ≡ b
+        by : (b : Bool) → eqb (s .tails (q i)) (x i) ≡ b
             → Stepped t s p (U10 i) (stepped-from t ws rs p (Some (U10 i)))
             (cond b (go (free s (q i)) p (done L s p i)) (go s p (U8 i)))
-        by true z = carried (U10 i) (q i) 2 (Cas (x i) 0) refl at refl (s .tl (q i)) d (done L s p i)
+        by true z = carried (U10 i) (q i) 2 (Cas (x i) 0) refl at refl (s .tails (q i)) d (done L s p i)
             (rw z (goes-down i (rg (U10 i) e))) (free s (q i)) refl
             (subst
             (λ b. Shows t (cond b (storing ws (q i) 2 0) ws) rs (free s (q i)))
             (sym (ap (λ t. eqb t (x i)) d ∙ z))
             (shows-free t ws rs s h (q i)))
-        by false z = carried (U10 i) (q i) 2 (Cas (x i) 0) refl at refl (s .tl (q i)) d (U8 i) (rw z (Waiting, refl)) s
-            refl (subst (λ b. Shows t (cond b (storing ws (q i) 2 0) ws) rs s) (sym (ap (λ t. eqb t (x i)) d ∙ z)) h)
+        by false z = carried (U10 i) (q i) 2 (Cas (x i) 0) refl at refl (s .tails (q i)) d (U8 i)
+            (rw z (Waiting, refl)) s refl
+            (subst (λ b. Shows t (cond b (storing ws (q i) 2 0) ws) rs s) (sym (ap (λ t. eqb t (x i)) d ∙ z)) h)
 
     -- every step
     pub lifted : (f : Place) → s .place p ≡ f → Lifts f ⊎ NoMore f
     lifted idle e = inr ((λ z. let y : _≡_ {A = ℕ} 0 1 = cc in omega arith), refl)
     lifted (W1 i) e = inl
         (carried (W1 i) (x i) 0 (Put 0) refl (re (W1 i) e) refl 0 refl _ (Moved, refl) _ refl
-        (shows-nx t ws rs s h (x i) 0))
+        (shows-next t ws rs s h (x i) 0))
     lifted (W2 i) e = inl
         (carried (W2 i) (x i) 1 (Put WAIT) refl (re (W2 i) e) refl 0 refl _ (Moved, refl) _ refl
-        (shows-st t ws rs s h (x i) WAIT))
+        (shows-status t ws rs s h (x i) WAIT))
     lifted (W3 i) e = inl
-        (carried (W3 i) (q i) 2 (Swap (x i)) refl (re (W3 i) e) refl (s .tl (q i)) (h .tails (q i) (re (W3 i) e)) _
-        (both (eqb (s .tl (q i)) 0) _ _ _ _ (Moved, refl) (Moved, refl)) _ refl
+        (carried (W3 i) (q i) 2 (Swap (x i)) refl (re (W3 i) e) refl (s .tails (q i)) (h .tails (q i) (re (W3 i) e)) _
+        (both (eqb (s .tails (q i)) 0) _ _ _ _ (Moved, refl) (Moved, refl)) _ refl
         (shows-join t ws rs s h (q i) (x i)))
     lifted (W4 i y) e = inl
         (carried (W4 i y) y 0 (Put (x i)) refl (re (W4 i y) e) refl 0 refl _ (Moved, refl) _ refl
-        (shows-nx t ws rs s h y (x i)))
+        (shows-next t ws rs s h y (x i)))
     lifted (W5 i) e = inl (lift-W5 i e)
     lifted (W6 i) e = inl
         (carried (W6 i) (x i) 1 (Put 0) refl (re (W6 i) e) refl 0 refl _
         (both (leb 2 i) _ _ _ _ (Moved, ap (λ j. moves (W1 j)) (sub-one i)) (Moved, refl)) _ refl
-        (shows-st t ws rs s h (x i) 0))
+        (shows-status t ws rs s h (x i) 0))
     lifted (W7 k) e =
         let l = rg (W7 k) e in
         inl
-        (adds-ar (W7 k) k write-bit (s .ar k + 2 ^ 62) l refl (omega (arith, small t G s bit v k l)) _
+        (adds-arrive (W7 k) k write-bit (s .arrives k + 2 ^ 62) l refl (omega (arith, small t G s bit v k l)) _
         (goes-next (counters t) k W7 _ _ (Moved, refl)))
     lifted (W8 k) e =
         let l = rg (W8 k) e in
         inl
-        (carried (W8 k) (counter-home t k) 3 Get refl (re (W8 k) e) refl (s .ar k) (h .arrives k l) _ (Moved, refl)
-        s refl h)
+        (carried (W8 k) (counter-home t k) 3 Get refl (re (W8 k) e) refl (s .arrives k) (h .arrives k l) _
+        (Moved, refl) s refl h)
     lifted (W9 k n) e =
         let l = rg (W9 k n) e in
         inl
-        (carried (W9 k n) (counter-home t k) 4 Get refl (re (W9 k n) e) refl (s .de k) (h .departs k l) _
-        (both′ _ (eqb n (2 ^ 62 + s .de k)) _ _ _ _ (ap (eqb n) (omega (arith, small t G s bit v k l)))
+        (carried (W9 k n) (counter-home t k) 4 Get refl (re (W9 k n) e) refl (s .departs k) (h .departs k l) _
+        (both′ _ (eqb n (2 ^ 62 + s .departs k)) _ _ _ _ (ap (eqb n) (omega (arith, small t G s bit v k l)))
         (goes-next (counters t) k W8 _ _ (Entered, refl)) (Waiting, refl))
         s refl h)
-    lifted (U1 i) e = inl (reads-st (U1 i) i refl (re (U1 i) e) _ (Moved, refl))
+    lifted (U1 i) e = inl (reads-status (U1 i) i refl (re (U1 i) e) _ (Moved, refl))
     lifted (U2 i n) e =
         let c = threshold t (element-at t p i) in
         let z : L .cap p i ≡ c =
         ap (λ b. cond b (t .shape .«writer_threshold» - 1) c) (ne-eqb i 1 (omega (arith, rg (U2 i n) e))) in
         inl
-        (reads-nx (U2 i n) i refl (re (U2 i n) e) _
+        (reads-next (U2 i n) i refl (re (U2 i n) e) _
         (subst
         (λ c.
-        Goes (next-of t p (U2 i n) (s .nx (x i)))
-        (cond (eqb (s .nx (x i)) 0) (cond (leb i 2) U4 (U1 (pred i)))
-        (cond (ltb n c) (U3 i (s .nx (x i)) (suc n))
+        Goes (next-of t p (U2 i n) (s .nexts (x i)))
+        (cond (eqb (s .nexts (x i)) 0) (cond (leb i 2) U4 (U1 (pred i)))
+        (cond (ltb n c) (U3 i (s .nexts (x i)) (suc n))
         (cond (leb i 2) U4 (U1 (pred i))))))
         (sym z)
-        (goes-U2 i n (s .nx (x i)) c)))
+        (goes-U2 i n (s .nexts (x i)) c)))
     lifted (U3 i y n) e = inl
         (carried (U3 i y n) y 1 (Put n) refl (re (U3 i y n) e) refl 0 refl _ (goes-down i (rg (U3 i y n) e .0)) _ refl
-        (shows-drop t (storing ws y 1 n) rs (put-st s y n) (shows-st t ws rs s h y n) (q i)))
-    lifted U4 e = inl (reads-st U4 1 refl (re U4 e) _ (Moved, refl))
+        (shows-drop t (storing ws y 1 n) rs (put-status s y n) (shows-status t ws rs s h y n) (q i)))
+    lifted U4 e = inl (reads-status U4 1 refl (re U4 e) _ (Moved, refl))
     lifted (U5 n) e =
-        inl (reads-nx (U5 n) 1 refl (re (U5 n) e) _ (goes-U5 n (s .nx (x 1)) (t .shape .«writer_threshold» - 1)))
-    lifted (U6 k) e = inl (swaps-de (U6 k) k (rg (U6 k) e) refl _ (Moved, refl))
+        inl (reads-next (U5 n) 1 refl (re (U5 n) e) _ (goes-U5 n (s .nexts (x 1)) (t .shape .«writer_threshold» - 1)))
+    lifted (U6 k) e = inl (swaps-depart (U6 k) k (rg (U6 k) e) refl _ (Moved, refl))
     lifted (U7 k n) e =
         let l = rg (U7 k n) e in
         inl
-        (adds-ar (U7 k n) k (minus ((write-bit + n) % 2 ^ 64)) (s .ar k - (2 ^ 62 + n)) l refl
+        (adds-arrive (U7 k n) k (minus ((write-bit + n) % 2 ^ 64)) (s .arrives k - (2 ^ 62 + n)) l refl
         (omega (arith, small t G s bit v k l, at-U7 t G s bit v p k n on l e)) _
         (goes-next (counters t) k U6 _ _ (Moved, refl)))
-    lifted (U8 i) e =
-        inl (reads-nx (U8 i) i refl (re (U8 i) e) _ (both (eqb (s .nx (x i)) 0) _ _ _ _ (Moved, refl) (Moved, refl)))
+    lifted (U8 i) e = inl
+        (reads-next (U8 i) i refl (re (U8 i) e) _ (both (eqb (s .nexts (x i)) 0) _ _ _ _ (Moved, refl) (Moved, refl)))
     lifted (U9 i y) e = inl
         (carried (U9 i y) y 1 (Put (tell i)) refl (re (U9 i y) e) refl 0 refl _ (goes-down i (rg (U9 i y) e .0)) _ refl
-        (shows-drop t (storing ws y 1 (tell i)) rs (put-st s y (tell i)) (shows-st t ws rs s h y (tell i))
+        (shows-drop t (storing ws y 1 (tell i)) rs (put-status s y (tell i)) (shows-status t ws rs s h y (tell i))
         (q i)))
     lifted (U10 i) e = inl (lift-U10 i e)
     lifted R1 e = inl
-        (adds-ar R1 c 1 (suc (s .ar c)) c-in (ap (λ y. Some (access y 3 (Add 1))) own-is)
+        (adds-arrive R1 c 1 (suc (s .arrives c)) c-in (ap (λ y. Some (access y 3 (Add 1))) own-is)
         (omega (arith, small t G s bit v c c-in)) _
-        (both (ltb (s .ar c) (L .TR)) _ _ _ _ (Entered, refl) (Moved, refl)))
+        (both (ltb (s .arrives c) (L .TR)) _ _ _ _ (Entered, refl) (Moved, refl)))
     lifted R2 e = inl
-        (adds-ar R2 c (minus 1) (pred (s .ar c)) c-in (ap (λ y. Some (access y 3 (Add (minus 1)))) own-is)
+        (adds-arrive R2 c (minus 1) (pred (s .arrives c)) c-in (ap (λ y. Some (access y 3 (Add (minus 1)))) own-is)
         (omega (arith, small t G s bit v c c-in, at-R2 t G s bit v p on e)) _ (Moved, refl))
     lifted R3 e = inl
-        (carried R3 (counter-home t c) 3 Get (ap (λ y. Some (access y 3 Get)) own-is) own-at refl (s .ar c)
+        (carried R3 (counter-home t c) 3 Get (ap (λ y. Some (access y 3 Get)) own-is) own-at refl (s .arrives c)
         (h .arrives c c-in) _
-        (both (ltb (s .ar c) (L .TR)) _ _ _ _ (Moved, refl)
-        (both (leb write-bit (s .ar c)) _ _ _ _ (Waiting, refl) (Moved, refl)))
+        (both (ltb (s .arrives c) (L .TR)) _ _ _ _ (Moved, refl)
+        (both (leb write-bit (s .arrives c)) _ _ _ _ (Waiting, refl) (Moved, refl)))
         s refl h)
     lifted R4 e = inl
-        (carried R4 (element-home t 1) 2 Get refl (re R4 e) refl (s .tl (q 1))
-        (h .tails (element-home t 1) (re R4 e) ∙ ap (s .tl) (sym (G .root p on))) _
-        (both (eqb (s .tl (q 1)) 0) _ _ _ _ (Moved, refl) (Waiting, refl)) s refl h)
-    lifted R5 e = inl (swaps-de R5 c c-in (ap (λ y. Some (access y 4 (Swap 0))) own-is) _ (Moved, refl))
+        (carried R4 (element-home t 1) 2 Get refl (re R4 e) refl (s .tails (q 1))
+        (h .tails (element-home t 1) (re R4 e) ∙ ap (s .tails) (sym (G .root p on))) _
+        (both (eqb (s .tails (q 1)) 0) _ _ _ _ (Moved, refl) (Waiting, refl)) s refl h)
+    lifted R5 e = inl (swaps-depart R5 c c-in (ap (λ y. Some (access y 4 (Swap 0))) own-is) _ (Moved, refl))
     lifted (R6 n) e = inl
-        (adds-ar (R6 n) c (minus n) (s .ar c - n) c-in (ap (λ y. Some (access y 3 (Add (minus n)))) own-is)
+        (adds-arrive (R6 n) c (minus n) (s .arrives c - n) c-in (ap (λ y. Some (access y 3 (Add (minus n)))) own-is)
         (omega (arith, small t G s bit v c c-in, at-R6 t G s bit v p n on e)) _ (Moved, refl))
     lifted R7 e = inl
-        (carried R7 (counter-home t c) 4 (Add 1) (ap (λ y. Some (access y 4 (Add 1))) own-is) own-at refl (s .de c)
-        (h .departs c c-in) _ (Free, refl) _ refl
-        (shows-de t ws rs s h (G .counter-one) c ((ws .word (counter-home t c) 4 + 1) % 2 ^ 64) (suc (s .de c))
-        (omega (arith, h .departs c c-in, small t G s bit v c c-in))))
+        (carried R7 (counter-home t c) 4 (Add 1) (ap (λ y. Some (access y 4 (Add 1))) own-is) own-at refl
+        (s .departs c) (h .departs c c-in) _ (Free, refl) _ refl
+        (shows-depart t ws rs s h (G .counter-one) c ((ws .word (counter-home t c) 4 + 1) % 2 ^ 64)
+        (suc (s .departs c)) (omega (arith, h .departs c c-in, small t G s bit v c c-in))))
     lifted writes e = inr ((λ z. let y : _≡_ {A = ℕ} 0 1 = cc in omega arith), refl)
     lifted reads e = inr ((λ z. let y : _≡_ {A = ℕ} 0 1 = cc in omega arith), refl)

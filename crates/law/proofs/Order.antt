@@ -26,7 +26,7 @@ use Rattle.law.proofs.Turns.{Traces, traces-join, traces-pass, traces-free}
 
 module _ (t : Tree) (G : Geometry t) (ws : Words) (rs : List Record) (s : Lock) (bit : ℕ → ℕ)
     (v : Safe (t .shape .ranks) (machine-plan t) s bit) (sh : Shows t ws rs s) (p : ℕ) (on : On (t .shape .ranks) p)
-    (h : History) (tr : Traces (s .at) (s .lo) (s .hi) h) where
+    (h : History) (tr : Traces (s .node-at) (s .head-turn) (s .next-turn) h) where
   abbrev L : Plan
   L = machine-plan t
 
@@ -37,34 +37,36 @@ module _ (t : Tree) (G : Geometry t) (ws : Words) (rs : List Record) (s : Lock) 
   inv = v .fine .queues
 
   abbrev Traced : Lock → History → Type 0
-  Traced s′ h′ = Traces (s′ .at) (s′ .lo) (s′ .hi) h′
+  Traced s′ h′ = Traces (s′ .node-at) (s′ .head-turn) (s′ .next-turn) h′
 
-  last-is : (k : ℕ) → s .lo k < s .hi k → s .tl k ≡ s .at k (pred (s .hi k))
-  last-is k l = inv .tail k (pred (s .hi k)) (omega arith) (omega arith)
+  last-is : (k : ℕ) → s .head-turn k < s .next-turn k → s .tails k ≡ s .node-at k (pred (s .next-turn k))
+  last-is k l = inv .tail k (pred (s .next-turn k)) (omega arith) (omega arith)
 
-  full : (k : ℕ) → s .lo k < s .hi k → s .tl k ≢ 0
+  full : (k : ℕ) → s .head-turn k < s .next-turn k → s .tails k ≢ 0
   full k l e =
-      let o = occupant T (G .apt .sensible .tree) (view T s) inv k (pred (s .hi k)) (omega arith) (omega arith) in
+      let o =
+      occupant T (G .apt .sensible .tree) (view T s) inv k (pred (s .next-turn k)) (omega arith) (omega arith) in
       G .apt .sensible .tree .no-zero (o .rank) (o .lvl) (o .on) (sym (o .is) ∙ (sym (last-is k l) ∙ e))
 
-  empty : (k : ℕ) → s .tl k ≡ 0 → s .lo k ≡ s .hi k
+  empty : (k : ℕ) → s .tails k ≡ 0 → s .head-turn k ≡ s .next-turn k
   empty k e = ⊎-elim
-      (λ (z : s .lo k ≡ s .hi k). z)
-      (λ (z : s .lo k ≡ s .hi k → ⊥). absurd (full k (omega (arith, inv .order k)) e))
-      (cases-eq (s .lo k) (s .hi k))
+      (λ (z : s .head-turn k ≡ s .next-turn k). z)
+      (λ (z : s .head-turn k ≡ s .next-turn k → ⊥). absurd (full k (omega (arith, inv .order k)) e))
+      (cases-eq (s .head-turn k) (s .next-turn k))
 
-  some : (k : ℕ) → s .tl k ≢ 0 → s .lo k < s .hi k
+  some : (k : ℕ) → s .tails k ≢ 0 → s .head-turn k < s .next-turn k
   some k e = ⊎-elim
-      (λ (z : s .lo k ≡ s .hi k). absurd (e (inv .empty k z)))
-      (λ (z : s .lo k ≡ s .hi k → ⊥). omega (arith, inv .order k))
-      (cases-eq (s .lo k) (s .hi k))
+      (λ (z : s .head-turn k ≡ s .next-turn k). absurd (e (inv .empty k z)))
+      (λ (z : s .head-turn k ≡ s .next-turn k → ⊥). omega (arith, inv .order k))
+      (cases-eq (s .head-turn k) (s .next-turn k))
 
-  tail-is : (i : ℕ) → On (own-level t p) i → ws .word (queue-home t p i) 2 ≡ s .tl (queue-home t p i)
+  tail-is : (i : ℕ) → On (own-level t p) i → ws .word (queue-home t p i) 2 ≡ s .tails (queue-home t p i)
   tail-is i o = sh .tails (queue-home t p i) (G .queue-in p i o)
 
   -- a hand-over
   hands : (b i y : ℕ) → phase T s p ≡ give b i y
-      → Traces (s .at) (upd (s .lo) (queue-home t p i) (suc (s .lo (queue-home t p i)))) (s .hi) (record {
+      → Traces (s .node-at) (upd (s .head-turn) (queue-home t p i) (suc (s .head-turn (queue-home t p i))))
+      (s .next-turn) (record {
         joined = h .joined;
         came = more (h .came) (queue-home t p i) y;
         gone = more (h .gone) (queue-home t p i) (node-home t p i);
@@ -74,8 +76,8 @@ module _ (t : Tree) (G : Geometry t) (ws : Words) (rs : List Record) (s : Lock) 
       let r = range-of (phase T s p) (T .top p) (inv .range p) (give b i y) e in
       let l : level (T .top p) (phase T s p) ≡ b = ap (level (T .top p)) e in
       let w = inv .heads p i (omega arith) (omega arith) in
-      traces-pass (s .at) (s .lo) (s .hi) h tr (queue-home t p i) (inv .order (queue-home t p i)) (node-home t p i) y
-      (n .more) (w .is) (n .is ∙ sym (n .target))
+      traces-pass (s .node-at) (s .head-turn) (s .next-turn) h tr (queue-home t p i) (inv .order (queue-home t p i))
+      (node-home t p i) y (n .more) (w .is) (n .is ∙ sym (n .target))
 
   frees : (i : ℕ) → s .place p ≡ U10 i → Traced (row L s p (U10 i)) (adds t ws p h (U10 i))
   frees i e = subst
@@ -86,7 +88,7 @@ module _ (t : Tree) (G : Geometry t) (ws : Words) (rs : List Record) (s : Lock) 
         gone = cond (eqb x (node-home t p i)) (more (h .gone) k (node-home t p i)) (h .gone);
       }))
       (sym (tail-is i (ranged t G s bit v p on (U10 i) e)))
-      (by (eqb (s .tl k) (node-home t p i)) refl)
+      (by (eqb (s .tails k) (node-home t p i)) refl)
     where
       k : ℕ
       k = queue-home t p i
@@ -94,7 +96,7 @@ module _ (t : Tree) (G : Geometry t) (ws : Words) (rs : List Record) (s : Lock) 
       was : phase T s p ≡ hold i
       was = phase-at T s p (U10 i) e
 
-      by : (b : Bool) → eqb (s .tl k) (node-home t p i) ≡ b
+      by : (b : Bool) → eqb (s .tails k) (node-home t p i) ≡ b
           → Traced (cond b (go (free s k) p (done L s p i)) (go s p (U8 i))) (record {
             joined = h .joined;
             came = h .came;
@@ -105,14 +107,16 @@ module _ (t : Tree) (G : Geometry t) (ws : Words) (rs : List Record) (s : Lock) 
           let r = range-of (phase T s p) (T .top p) (inv .range p) (hold i) was in
           let l : level (T .top p) (phase T s p) ≡ i = ap (level (T .top p)) was in
           let w : Heads T (view T s) p i = inv .heads p i r (omega arith) in
-          let y : pred (s .hi k) ≡ s .lo k =
-          inv .once k (pred (s .hi k)) (s .lo k) (omega (arith, w .some)) (omega (arith, w .some)) (omega arith)
-          (w .some) (sym (last-is k (w .some)) ∙ (eqb-true (s .tl k) (node-home t p i) z ∙ sym (w .is))) in
-          traces-free (s .at) (s .lo) (s .hi) h tr k (inv .order k) (node-home t p i) (omega (arith, w .some)) (w .is)
+          let y : pred (s .next-turn k) ≡ s .head-turn k =
+          inv .once k (pred (s .next-turn k)) (s .head-turn k) (omega (arith, w .some)) (omega (arith, w .some))
+          (omega arith) (w .some)
+          (sym (last-is k (w .some)) ∙ (eqb-true (s .tails k) (node-home t p i) z ∙ sym (w .is))) in
+          traces-free (s .node-at) (s .head-turn) (s .next-turn) h tr k (inv .order k) (node-home t p i)
+          (omega (arith, w .some)) (w .is)
 
   waits : (i : ℕ) → Traced (row L s p (W5 i)) h
-  waits i = by (eqb (s .st (node-home t p i)) WAIT) (leb (s .st (node-home t p i)) 1000)
-      (eqb (s .st (node-home t p i)) (tell i))
+  waits i = by (eqb (s .statuses (node-home t p i)) WAIT) (leb (s .statuses (node-home t p i)) 1000)
+      (eqb (s .statuses (node-home t p i)) (tell i))
     where
       by : (a b c : Bool) → Traced (cond a s (cond b (go s p writes) (cond c (go s p (W6 i)) s))) h
       by true b c = tr
@@ -132,8 +136,8 @@ module _ (t : Tree) (G : Geometry t) (ws : Words) (rs : List Record) (s : Lock) 
         gone = h .gone;
       }))
       (sym (tail-is i (ranged t G s bit v p on (W3 i) e)))
-      (traces-join (s .at) (s .lo) (s .hi) h tr (queue-home t p i) (inv .order (queue-home t p i)) (node-home t p i)
-      (s .tl (queue-home t p i)) (empty (queue-home t p i)) (some (queue-home t p i)))
+      (traces-join (s .node-at) (s .head-turn) (s .next-turn) h tr (queue-home t p i) (inv .order (queue-home t p i))
+      (node-home t p i) (s .tails (queue-home t p i)) (empty (queue-home t p i)) (some (queue-home t p i)))
   traced (W4 i t′) e = tr
   traced (W5 i) e = waits i
   traced (W6 i) e = tr

@@ -95,10 +95,10 @@ module _ (t : Tree) (G : Geometry t) (s : Lock) (bit : ℕ → ℕ) (v : Safe (t
 
   pub ranged : (p : ℕ) → On (t .shape .ranks) p → (f : Place) → s .place p ≡ f → Ranged t p f
   ranged p on f e = by f (phase-at T s p f e) (subst (InRange (T .top p)) (phase-at T s p f e) (inv .range p))
-      (subst (Sound L (s .st) p) e (v .fine .sound p)) (subst (Within (counters t)) e (v .within p))
+      (subst (Sound L (s .statuses) p) e (v .fine .sound p)) (subst (Within (counters t)) e (v .within p))
     where
-      by : (f : Place) → phase T s p ≡ phaseOf f (s .st (T .node p (at-level f)))
-          → InRange (T .top p) (phaseOf f (s .st (T .node p (at-level f)))) → Sound L (s .st) p f
+      by : (f : Place) → phase T s p ≡ phaseOf f (s .statuses (T .node p (at-level f)))
+          → InRange (T .top p) (phaseOf f (s .statuses (T .node p (at-level f)))) → Sound L (s .statuses) p f
           → Within (counters t) f → Ranged t p f
       by idle z r so w = tt
       by (W1 i) z r so w = r

@@ -31,16 +31,16 @@ module _ (t : Tree) (G : Geometry t) (s : Lock) (bit : ℕ → ℕ) (v : Safe (t
   idle-at : (p i : ℕ) → On (T .top p) i → s .place p ≡ idle
   idle-at p i o = all p (G .apt .sensible .ranks p (omega arith))
 
-  no-tail : (k : ℕ) → s .tl k ≡ 0
+  no-tail : (k : ℕ) → s .tails k ≡ 0
   no-tail k = ⊎-elim
-      (λ (z : s .lo k ≡ s .hi k). v .fine .queues .empty k z)
-      (λ (z : s .lo k ≡ s .hi k → ⊥).
+      (λ (z : s .head-turn k ≡ s .next-turn k). v .fine .queues .empty k z)
+      (λ (z : s .head-turn k ≡ s .next-turn k → ⊥).
       let h = v .fine .queues .holder k (omega (arith, v .fine .queues .order k)) in
       let e = idle-at (h .rank) (h .lvl) (h .on) in
       let y : level (T .top (h .rank)) (phase T s (h .rank)) ≡ suc (T .top (h .rank)) =
       ap (level (T .top (h .rank))) (phase-at T s (h .rank) idle e) in
       absurd (omega (arith, h .on, h .holds)))
-      (cases-eq (s .lo k) (s .hi k))
+      (cases-eq (s .head-turn k) (s .next-turn k))
 
   closed : (p c : ℕ) → Marks (gate T s p) c → ⊥
   closed p c m = ⊎-elim
@@ -59,7 +59,7 @@ module _ (t : Tree) (G : Geometry t) (s : Lock) (bit : ℕ → ℕ) (v : Safe (t
       (λ p. f (loadOf (machine-plan t .home p) (s .place p)) c)
       (λ q a b. ap (λ l. f l c) (load-of q a b) ∙ e) ∙ total-zero P
 
-  agree : (c : ℕ) → c < counters t → s .ar c ≡ s .de c
+  agree : (c : ℕ) → c < counters t → s .arrives c ≡ s .departs c
   agree c l =
       let w : Count P (t .shape .«reader_threshold») (tally (machine-plan t) s bit) c = v .counted .each c l in
       let b : bit c ≢ 1 = λ z. let y = w .stands z in closed (y .0) c (y .1) in

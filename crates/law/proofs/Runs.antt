@@ -65,7 +65,7 @@ pub record Holds (t : Tree) (ws : Words) (rs : List Record) (w : Presence) (h : 
   pub ranked : (p : ℕ) → w .inside p ≡ true → On (t .shape .ranks) p
   pub rest : (p : ℕ) → w .idle p ≡ true → lock .place p ≡ idle
   pub idles : (p : ℕ) → lock .place p ≡ idle → w .idle p ≡ true
-  pub trace : Traces (lock .at) (lock .lo) (lock .hi) h
+  pub trace : Traces (lock .node-at) (lock .head-turn) (lock .next-turn) h
 
 -- and after one of them, with the lock that comes next
 abbrev pub Kept : Tree → Words → List Record → Presence → History → Call → Outcome → Lock → (ℕ → ℕ) → Type 0
@@ -182,8 +182,8 @@ module _ (t : Tree) (G : Geometry t) (ws : Words) (rs : List Record) (w : Presen
               (λ q ne. rw (ne-eqb q p ne, z .there q ne) (k .idles q));
           trace = subst
               (λ (x : Option Place).
-              Traces (row L s p (s .place p) .at) (row L s p (s .place p) .lo) (row L s p (s .place p) .hi)
-              (adds-from t ws p h x))
+              Traces (row L s p (s .place p) .node-at) (row L s p (s .place p) .head-turn)
+              (row L s p (s .place p) .next-turn) (adds-from t ws p h x))
               (sym (shown p on))
               (traced t G ws rs s bit (k .safe) (k .shows) p on h (k .trace) (s .place p) refl);
         },
@@ -258,7 +258,7 @@ module _ (t : Tree) (G : Geometry t) (ws : Words) (rs : List Record) (w : Presen
           (λ q. upd (s .place) p f q ≡ idle → noted w c a .idle q ≡ true)
           (λ z. absurd (off (sym (upd-same (s .place) p f) ∙ z)))
           (λ q ne. rw (upd-other (s .place) p f q ne, there q ne .2) (k .idles q));
-      trace = subst (Traces (s .at) (s .lo) (s .hi)) (sym same) (k .trace);
+      trace = subst (Traces (s .node-at) (s .head-turn) (s .next-turn)) (sym same) (k .trace);
     },
     tt,
   )
@@ -493,4 +493,5 @@ module _ (t : Tree) (G : Geometry t) (ws : Words) (rs : List Record) (e : laid-a
   pub end-order : (k : ℕ) → Ordered (history t (laid t ws rs) nothing calls) k
   end-order =
       let k = at-end in
-      ordered (k .0 .at) (k .0 .lo) (k .0 .hi) end-history (k .2 .safe .fine .queues .order) (k .2 .trace)
+      ordered (k .0 .node-at) (k .0 .head-turn) (k .0 .next-turn) end-history (k .2 .safe .fine .queues .order)
+      (k .2 .trace)

@@ -20,7 +20,8 @@ use Rattle.plan.specs.Trees.{Tree, counters, counter-home, homes}
 use Rattle.places.specs.declared.record.Record.{Record}
 use Rattle.places.specs.Records.{recorded}
 use Rattle.queues.specs.Machine.{On}
-use Rattle.queues.specs.Rows.{Place, idle, Lock, upd, go, put-nx, put-st, put-ar, put-de, join, drop, free}
+use Rattle.queues.specs.Rows.{Place, idle, Lock, upd, go, put-next, put-status, put-arrive, put-depart, join, drop}
+use Rattle.queues.specs.Rows.{free}
 use Rattle.law.proofs.Bridge.{Shows, Geometry, gives, effect}
 use Rattle.queues.proofs.View.{upd-same, upd-other}
 use Rattle.queues.proofs.Split.{split}
@@ -46,9 +47,9 @@ done-by ws h o (Cas v w) on l = (
 )
 
 module _ (t : Tree) (ws : Words) (rs : List Record) (s : Lock) (v : Shows t ws rs s) where
-  pub shows-nx : (h x : ℕ) → Shows t (storing ws h 0 x) rs (put-nx s h x)
+  pub shows-next : (h x : ℕ) → Shows t (storing ws h 0 x) rs (put-next s h x)
   unfolding upd
-  shows-nx h x = record {
+  shows-next h x = record {
     ranks = v .ranks;
     room = v .room;
     places = v .places;
@@ -59,9 +60,9 @@ module _ (t : Tree) (ws : Words) (rs : List Record) (s : Lock) (v : Shows t ws r
     departs = λ c l. let e = v .departs c l in grind (arith, tells);
   }
 
-  pub shows-st : (h x : ℕ) → Shows t (storing ws h 1 x) rs (put-st s h x)
+  pub shows-status : (h x : ℕ) → Shows t (storing ws h 1 x) rs (put-status s h x)
   unfolding upd
-  shows-st h x = record {
+  shows-status h x = record {
     ranks = v .ranks;
     room = v .room;
     places = v .places;
@@ -154,10 +155,10 @@ module _ (t : Tree) (ws : Words) (rs : List Record) (s : Lock) (v : Shows t ws r
         departs = v .departs;
       }
 
-  pub shows-ar : ((a b : ℕ) → counter-home t a ≡ counter-home t b → a ≡ b) → (k x y : ℕ) → x ≡ y
-      → Shows t (storing ws (counter-home t k) 3 x) rs (put-ar s k y)
+  pub shows-arrive : ((a b : ℕ) → counter-home t a ≡ counter-home t b → a ≡ b) → (k x y : ℕ) → x ≡ y
+      → Shows t (storing ws (counter-home t k) 3 x) rs (put-arrive s k y)
   unfolding upd
-  shows-ar one k x y d = record {
+  shows-arrive one k x y d = record {
     ranks = v .ranks;
     room = v .room;
     places = v .places;
@@ -168,10 +169,10 @@ module _ (t : Tree) (ws : Words) (rs : List Record) (s : Lock) (v : Shows t ws r
     departs = λ c l. let e = v .departs c l in grind (arith, tells, one);
   }
 
-  pub shows-de : ((a b : ℕ) → counter-home t a ≡ counter-home t b → a ≡ b) → (k x y : ℕ) → x ≡ y
-      → Shows t (storing ws (counter-home t k) 4 x) rs (put-de s k y)
+  pub shows-depart : ((a b : ℕ) → counter-home t a ≡ counter-home t b → a ≡ b) → (k x y : ℕ) → x ≡ y
+      → Shows t (storing ws (counter-home t k) 4 x) rs (put-depart s k y)
   unfolding upd
-  shows-de one k x y d = record {
+  shows-depart one k x y d = record {
     ranks = v .ranks;
     room = v .room;
     places = v .places;

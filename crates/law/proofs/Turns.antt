@@ -41,20 +41,22 @@ turns-front f m (suc n) l = ⊎-elim
     (cases-eq m (suc n))
 
 -- the past, by turns
-pub record Traces (at : ℕ → ℕ → ℕ) (lo hi : ℕ → ℕ) (h : History) : Type 0 where
-  pub joined : (q : ℕ) → h .joined q ≡ turns (at q) (hi q)
-  pub came : (q : ℕ) → h .came q ≡ turns (at q) (min (suc (lo q)) (hi q))
-  pub gone : (q : ℕ) → h .gone q ≡ turns (at q) (lo q)
+pub record Traces (at : ℕ → ℕ → ℕ) (head-turn next-turn : ℕ → ℕ) (h : History) : Type 0 where
+  pub joined : (q : ℕ) → h .joined q ≡ turns (at q) (next-turn q)
+  pub came : (q : ℕ) → h .came q ≡ turns (at q) (min (suc (head-turn q)) (next-turn q))
+  pub gone : (q : ℕ) → h .gone q ≡ turns (at q) (head-turn q)
 
-pub ordered : (at : ℕ → ℕ → ℕ) (lo hi : ℕ → ℕ) (h : History) → ((q : ℕ) → lo q ≤ hi q) → Traces at lo hi h → (q : ℕ)
-    → Ordered h q
-ordered at lo hi h l t q =
+pub ordered : (at : ℕ → ℕ → ℕ) (head-turn next-turn : ℕ → ℕ) (h : History) → ((q : ℕ) → head-turn q ≤ next-turn q)
+    → Traces at head-turn next-turn h → (q : ℕ) → Ordered h q
+ordered at head-turn next-turn h l t q =
     let le = l q in
-    let a = turns-length (at q) (min (suc (lo q)) (hi q)) in
-    let b = turns-length (at q) (lo q) in
+    let a = turns-length (at q) (min (suc (head-turn q)) (next-turn q)) in
+    let b = turns-length (at q) (head-turn q) in
     record {
-      order = rw (t .came q, t .joined q) (turns-front (at q) (min (suc (lo q)) (hi q)) (hi q) (omega arith));
-      stopped = rw (t .came q, t .gone q) (turns-front (at q) (lo q) (min (suc (lo q)) (hi q)) (omega arith));
+      order = rw (t .came q, t .joined q)
+          (turns-front (at q) (min (suc (head-turn q)) (next-turn q)) (next-turn q) (omega arith));
+      stopped = rw (t .came q, t .gone q)
+          (turns-front (at q) (head-turn q) (min (suc (head-turn q)) (next-turn q)) (omega arith));
       single = rw (t .came q, t .gone q) (omega arith);
     }
 
@@ -65,10 +67,11 @@ add f n l x e d = ap (λ (y : List ℕ). y ++ (x ∷ [])) e ∙ ap (λ y. turns 
 count-is : (f : ℕ → ℕ) (m n : ℕ) (l : List ℕ) → m ≡ n → l ≡ turns f m → l ≡ turns f n
 count-is f m n l e d = subst (λ k. l ≡ turns f k) e d
 
-module _ (at : ℕ → ℕ → ℕ) (lo hi : ℕ → ℕ) (h : History) (t : Traces at lo hi h) (k : ℕ) (le : lo k ≤ hi k) where
+module _ (at : ℕ → ℕ → ℕ) (head-turn next-turn : ℕ → ℕ) (h : History) (t : Traces at head-turn next-turn h) (k : ℕ)
+    (le : head-turn k ≤ next-turn k) where
   -- a node joins; it holds at once if the queue was empty
-  pub traces-join : (x w : ℕ) → (w ≡ 0 → lo k ≡ hi k) → (w ≢ 0 → lo k < hi k)
-      → Traces (upd at k (upd (at k) (hi k) x)) lo (upd hi k (suc (hi k))) (record {
+  pub traces-join : (x w : ℕ) → (w ≡ 0 → head-turn k ≡ next-turn k) → (w ≢ 0 → head-turn k < next-turn k)
+      → Traces (upd at k (upd (at k) (next-turn k) x)) head-turn (upd next-turn k (suc (next-turn k))) (record {
         joined = more (h .joined) k x;
         came = cond (eqb w 0) (more (h .came) k x) (h .came);
         gone = h .gone;
@@ -76,61 +79,69 @@ module _ (at : ℕ → ℕ → ℕ) (lo hi : ℕ → ℕ) (h : History) (t : Tra
   traces-join x w empty full =
       record {
         joined = split k
-            (λ q. more (h .joined) k x q ≡ turns (upd at k F q) (upd hi k (suc (hi k)) q))
-            (rw (eq-eqb k k refl, upd-same at k F, upd-same hi k (suc (hi k)))
-            (add F (hi k) (h .joined k) x (t .joined k ∙ sym same) here))
-            (λ q ne. rw (ne-eqb q k ne, upd-other at k F q ne, upd-other hi k (suc (hi k)) q ne) (t .joined q));
+            (λ q. more (h .joined) k x q ≡ turns (upd at k F q) (upd next-turn k (suc (next-turn k)) q))
+            (rw (eq-eqb k k refl, upd-same at k F, upd-same next-turn k (suc (next-turn k)))
+            (add F (next-turn k) (h .joined k) x (t .joined k ∙ sym same) here))
+            (λ q ne.
+            rw (ne-eqb q k ne, upd-other at k F q ne, upd-other next-turn k (suc (next-turn k)) q ne)
+            (t .joined q));
         came = split k
             (λ q.
             cond (eqb w 0) (more (h .came) k x) (h .came) q
-            ≡ turns (upd at k F q) (min (suc (lo q)) (upd hi k (suc (hi k)) q)))
-            (rw (upd-same at k F, upd-same hi k (suc (hi k)))
+            ≡ turns (upd at k F q) (min (suc (head-turn q)) (upd next-turn k (suc (next-turn k)) q)))
+            (rw (upd-same at k F, upd-same next-turn k (suc (next-turn k)))
             (⊎-elim (λ (z : w ≡ 0). first z) (λ (z : w ≡ 0 → ⊥). later z) (cases-eq w 0)))
-            (λ q ne. rw (upd-other at k F q ne, upd-other hi k (suc (hi k)) q ne) (others q ne (eqb w 0)));
+            (λ q ne.
+            rw (upd-other at k F q ne, upd-other next-turn k (suc (next-turn k)) q ne) (others q ne (eqb w 0)));
         gone = split k
-            (λ q. h .gone q ≡ turns (upd at k F q) (lo q))
-            (rw (upd-same at k F) (t .gone k ∙ sym (turns-same (at k) F (lo k) (λ a l. below a (omega arith)))))
+            (λ q. h .gone q ≡ turns (upd at k F q) (head-turn q))
+            (rw (upd-same at k F)
+            (t .gone k ∙ sym (turns-same (at k) F (head-turn k) (λ a l. below a (omega arith)))))
             (λ q ne. rw (upd-other at k F q ne) (t .gone q));
       }
     where
       F : ℕ → ℕ
-      F = upd (at k) (hi k) x
+      F = upd (at k) (next-turn k) x
 
-      below : (a : ℕ) → a < hi k → F a ≡ at k a
-      below a l = upd-other (at k) (hi k) x a (omega arith)
+      below : (a : ℕ) → a < next-turn k → F a ≡ at k a
+      below a l = upd-other (at k) (next-turn k) x a (omega arith)
 
-      here : F (hi k) ≡ x
-      here = upd-same (at k) (hi k) x
+      here : F (next-turn k) ≡ x
+      here = upd-same (at k) (next-turn k) x
 
-      same : turns F (hi k) ≡ turns (at k) (hi k)
-      same = turns-same (at k) F (hi k) below
+      same : turns F (next-turn k) ≡ turns (at k) (next-turn k)
+      same = turns-same (at k) F (next-turn k) below
 
-      first : w ≡ 0 → cond (eqb w 0) (more (h .came) k x) (h .came) k ≡ turns F (min (suc (lo k)) (suc (hi k)))
+      first : w ≡ 0
+          → cond (eqb w 0) (more (h .came) k x) (h .came) k ≡ turns F (min (suc (head-turn k)) (suc (next-turn k)))
       first z =
           let e = empty z in
           rw (eq-eqb w 0 z, eq-eqb k k refl)
-          (count-is F (suc (hi k)) (min (suc (lo k)) (suc (hi k))) (h .came k ++ (x ∷ [])) (omega arith)
-          (add F (hi k) (h .came k) x
-          (count-is (at k) (min (suc (lo k)) (hi k)) (hi k) (h .came k) (omega arith) (t .came k)
-          ∙ sym same)
+          (count-is F (suc (next-turn k)) (min (suc (head-turn k)) (suc (next-turn k))) (h .came k ++ (x ∷ []))
+          (omega arith)
+          (add F (next-turn k) (h .came k) x
+          (count-is (at k) (min (suc (head-turn k)) (next-turn k)) (next-turn k) (h .came k)
+          (omega arith) (t .came k) ∙ sym same)
           here))
 
-      later : (w ≡ 0 → ⊥) → cond (eqb w 0) (more (h .came) k x) (h .came) k ≡ turns F (min (suc (lo k)) (suc (hi k)))
+      later : (w ≡ 0 → ⊥)
+          → cond (eqb w 0) (more (h .came) k x) (h .came) k ≡ turns F (min (suc (head-turn k)) (suc (next-turn k)))
       later z =
           let e = full z in
           rw (ne-eqb w 0 z)
-          (count-is F (suc (lo k)) (min (suc (lo k)) (suc (hi k))) (h .came k) (omega arith)
-          (count-is (at k) (min (suc (lo k)) (hi k)) (suc (lo k)) (h .came k) (omega arith) (t .came k)
-          ∙ sym (turns-same (at k) F (suc (lo k)) (λ a l. below a (omega arith)))))
+          (count-is F (suc (head-turn k)) (min (suc (head-turn k)) (suc (next-turn k))) (h .came k) (omega arith)
+          (count-is (at k) (min (suc (head-turn k)) (next-turn k)) (suc (head-turn k)) (h .came k)
+          (omega arith) (t .came k)
+          ∙ sym (turns-same (at k) F (suc (head-turn k)) (λ a l. below a (omega arith)))))
 
       others : (q : ℕ) → q ≢ k → (b : Bool)
-          → cond b (more (h .came) k x) (h .came) q ≡ turns (at q) (min (suc (lo q)) (hi q))
+          → cond b (more (h .came) k x) (h .came) q ≡ turns (at q) (min (suc (head-turn q)) (next-turn q))
       others q ne true = rw (ne-eqb q k ne) (t .came q)
       others q ne false = t .came q
 
   -- the head hands over to the next
-  pub traces-pass : (x y : ℕ) → suc (lo k) < hi k → at k (lo k) ≡ x → at k (suc (lo k)) ≡ y
-      → Traces at (upd lo k (suc (lo k))) hi (record {
+  pub traces-pass : (x y : ℕ) → suc (head-turn k) < next-turn k → at k (head-turn k) ≡ x → at k (suc (head-turn k)) ≡ y
+      → Traces at (upd head-turn k (suc (head-turn k))) next-turn (record {
         joined = h .joined;
         came = more (h .came) k y;
         gone = more (h .gone) k x;
@@ -139,24 +150,26 @@ module _ (at : ℕ → ℕ → ℕ) (lo hi : ℕ → ℕ) (h : History) (t : Tra
       record {
         joined = t .joined;
         came = split k
-            (λ q. more (h .came) k y q ≡ turns (at q) (min (suc (upd lo k (suc (lo k)) q)) (hi q)))
-            (rw (eq-eqb k k refl, upd-same lo k (suc (lo k)))
-            (count-is (at k) (suc (suc (lo k))) (min (suc (suc (lo k))) (hi k)) (h .came k ++ (y ∷ []))
-            (omega arith)
-            (add (at k) (suc (lo k)) (h .came k) y
-            (count-is (at k) (min (suc (lo k)) (hi k)) (suc (lo k)) (h .came k) (omega arith)
-            (t .came k))
+            (λ q.
+            more (h .came) k y q ≡ turns (at q) (min (suc (upd head-turn k (suc (head-turn k)) q)) (next-turn q)))
+            (rw (eq-eqb k k refl, upd-same head-turn k (suc (head-turn k)))
+            (count-is (at k) (suc (suc (head-turn k))) (min (suc (suc (head-turn k))) (next-turn k))
+            (h .came k ++ (y ∷ [])) (omega arith)
+            (add (at k) (suc (head-turn k)) (h .came k) y
+            (count-is (at k) (min (suc (head-turn k)) (next-turn k)) (suc (head-turn k))
+            (h .came k) (omega arith) (t .came k))
             d)))
-            (λ q ne. rw (ne-eqb q k ne, upd-other lo k (suc (lo k)) q ne) (t .came q));
+            (λ q ne. rw (ne-eqb q k ne, upd-other head-turn k (suc (head-turn k)) q ne) (t .came q));
         gone = split k
-            (λ q. more (h .gone) k x q ≡ turns (at q) (upd lo k (suc (lo k)) q))
-            (rw (eq-eqb k k refl, upd-same lo k (suc (lo k))) (add (at k) (lo k) (h .gone k) x (t .gone k) e))
-            (λ q ne. rw (ne-eqb q k ne, upd-other lo k (suc (lo k)) q ne) (t .gone q));
+            (λ q. more (h .gone) k x q ≡ turns (at q) (upd head-turn k (suc (head-turn k)) q))
+            (rw (eq-eqb k k refl, upd-same head-turn k (suc (head-turn k)))
+            (add (at k) (head-turn k) (h .gone k) x (t .gone k) e))
+            (λ q ne. rw (ne-eqb q k ne, upd-other head-turn k (suc (head-turn k)) q ne) (t .gone q));
       }
 
   -- the head goes, and nobody is behind it
-  pub traces-free : (x : ℕ) → suc (lo k) ≡ hi k → at k (lo k) ≡ x
-      → Traces at (upd lo k (suc (lo k))) hi (record {
+  pub traces-free : (x : ℕ) → suc (head-turn k) ≡ next-turn k → at k (head-turn k) ≡ x
+      → Traces at (upd head-turn k (suc (head-turn k))) next-turn (record {
         joined = h .joined;
         came = h .came;
         gone = more (h .gone) k x;
@@ -165,13 +178,14 @@ module _ (at : ℕ → ℕ → ℕ) (lo hi : ℕ → ℕ) (h : History) (t : Tra
       record {
         joined = t .joined;
         came = split k
-            (λ q. h .came q ≡ turns (at q) (min (suc (upd lo k (suc (lo k)) q)) (hi q)))
-            (rw (upd-same lo k (suc (lo k)))
-            (count-is (at k) (min (suc (lo k)) (hi k)) (min (suc (suc (lo k))) (hi k)) (h .came k)
-            (omega arith) (t .came k)))
-            (λ q ne. rw (upd-other lo k (suc (lo k)) q ne) (t .came q));
+            (λ q. h .came q ≡ turns (at q) (min (suc (upd head-turn k (suc (head-turn k)) q)) (next-turn q)))
+            (rw (upd-same head-turn k (suc (head-turn k)))
+            (count-is (at k) (min (suc (head-turn k)) (next-turn k))
+            (min (suc (suc (head-turn k))) (next-turn k)) (h .came k) (omega arith) (t .came k)))
+            (λ q ne. rw (upd-other head-turn k (suc (head-turn k)) q ne) (t .came q));
         gone = split k
-            (λ q. more (h .gone) k x q ≡ turns (at q) (upd lo k (suc (lo k)) q))
-            (rw (eq-eqb k k refl, upd-same lo k (suc (lo k))) (add (at k) (lo k) (h .gone k) x (t .gone k) e))
-            (λ q ne. rw (ne-eqb q k ne, upd-other lo k (suc (lo k)) q ne) (t .gone q));
+            (λ q. more (h .gone) k x q ≡ turns (at q) (upd head-turn k (suc (head-turn k)) q))
+            (rw (eq-eqb k k refl, upd-same head-turn k (suc (head-turn k)))
+            (add (at k) (head-turn k) (h .gone k) x (t .gone k) e))
+            (λ q ne. rw (ne-eqb q k ne, upd-other head-turn k (suc (head-turn k)) q ne) (t .gone q));
       }

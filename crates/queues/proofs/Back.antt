@@ -32,25 +32,25 @@ waits-or (give h j t) = inr (λ i e. absurd (subst (λ f. Waits f i) (sym e) ref
 -- a rank that holds something and does not wait
 pub record Mover (T : Tree) (s : State) : Type 0 where
   pub rank : ℕ
-  pub holds : level (T .top rank) (s .ph rank) ≤ T .top rank
-  pub free : (i : ℕ) → s .ph rank ≢ wait i
+  pub holds : level (T .top rank) (s .phases rank) ≤ T .top rank
+  pub free : (i : ℕ) → s .phases rank ≢ wait i
 
 -- whoever waits, somebody holds what it waits for; who waits in turn waits higher up
-onward : (T : Tree) → Lawful T → (s : State) → Inv T s → (d i p : ℕ) → i ≤ suc d → s .ph p ≡ wait i
-    → ((j q : ℕ) → j ≤ d → s .ph q ≡ wait j → Mover T s) → Mover T s
+onward : (T : Tree) → Lawful T → (s : State) → Inv T s → (d i p : ℕ) → i ≤ suc d → s .phases p ≡ wait i
+    → ((j q : ℕ) → j ≤ d → s .phases q ≡ wait j → Mover T s) → Mover T s
 onward T G s v d i p l e again =
     let b : Behind T s p i = asked T s v p (wait i) e .spot in
     let on : On (T .top p) i = subst (InRange (T .top p)) e (v .range p) in
     let h : Holder T s (T .elem p i) = v .holder (T .elem p i) (omega (arith, b .low, b .high)) in
     let same : h .lvl ≡ i = G .level-of (h .rank) p (h .lvl) i (h .on) on (h .queue) in
     ⊎-elim
-    (λ (w : (j : ℕ) × (s .ph (h .rank) ≡ wait j)).
+    (λ (w : (j : ℕ) × (s .phases (h .rank) ≡ wait j)).
     again (w .0) (h .rank) (omega (arith, h .holds, ap (level (T .top (h .rank))) (w .1))) (w .1))
-    (λ (w : (j : ℕ) → s .ph (h .rank) ≢ wait j).
+    (λ (w : (j : ℕ) → s .phases (h .rank) ≢ wait j).
     record { rank = h .rank; holds = omega (arith, h .holds, h .on); free = w })
-    (waits-or (s .ph (h .rank)))
+    (waits-or (s .phases (h .rank)))
 
-pub mover : (T : Tree) → Lawful T → (s : State) → Inv T s → (d i p : ℕ) → i ≤ d → s .ph p ≡ wait i → Mover T s
+pub mover : (T : Tree) → Lawful T → (s : State) → Inv T s → (d i p : ℕ) → i ≤ d → s .phases p ≡ wait i → Mover T s
 mover T G s v zero i p l e =
     let o : On (T .top p) i = subst (InRange (T .top p)) e (v .range p) in absurd (omega arith)
 mover T G s v (suc d) i p l e = onward T G s v d i p l e (λ j q m w. mover T G s v d j q m w)
@@ -94,11 +94,11 @@ Able L s p (W1 i) = Unit {0}
 Able L s p (W2 i) = Unit {0}
 Able L s p (W3 i) = Unit {0}
 Able L s p (W4 i t) = Unit {0}
-Able L s p (W5 i) = (s .st (L .tree .node p i) ≤ 1000) ⊎ (s .st (L .tree .node p i) ≡ tell i)
+Able L s p (W5 i) = (s .statuses (L .tree .node p i) ≤ 1000) ⊎ (s .statuses (L .tree .node p i) ≡ tell i)
 Able L s p (W6 i) = Unit {0}
 Able L s p (W7 k) = k < L .counters
 Able L s p (W8 k) = k < L .counters
-Able L s p (W9 k n) = (k < L .counters) × (n ≡ 2 ^ 62 + s .de k)
+Able L s p (W9 k n) = (k < L .counters) × (n ≡ 2 ^ 62 + s .departs k)
 Able L s p (U1 i) = Unit {0}
 Able L s p (U2 i n) = 2 ≤ i
 Able L s p (U3 i t n) = On (L .tree .top p) i
@@ -108,7 +108,7 @@ Able L s p (U6 k) = k < L .counters
 Able L s p (U7 k n) = (k < L .counters) × On (L .tree .top p) 1
 Able L s p (U8 i) = Unit {0}
 Able L s p (U9 i t) = On (L .tree .top p) i
-Able L s p (U10 i) = On (L .tree .top p) i × (s .tl (L .tree .elem p i) ≡ L .tree .node p i)
+Able L s p (U10 i) = On (L .tree .top p) i × (s .tails (L .tree .elem p i) ≡ L .tree .node p i)
 Able L s p R1 = ⊥
 Able L s p R2 = ⊥
 Able L s p R3 = ⊥
@@ -154,17 +154,17 @@ module _ (L : Plan) (s : Lock) (p : ℕ) where
   falls (W1 i) a = to (ahead N C (W1 i)) s (W2 i) (omega arith)
   falls (W2 i) a = to (ahead N C (W2 i)) s (W3 i) (omega arith)
   falls (W3 i) a = to (ahead N C (W3 i)) s
-      (cond (eqb (s .tl (L .tree .elem p i)) 0) (W6 i) (W4 i (s .tl (L .tree .elem p i))))
-      (cond-both (eqb (s .tl (L .tree .elem p i)) 0) (W6 i) (W4 i (s .tl (L .tree .elem p i)))
+      (cond (eqb (s .tails (L .tree .elem p i)) 0) (W6 i) (W4 i (s .tails (L .tree .elem p i))))
+      (cond-both (eqb (s .tails (L .tree .elem p i)) 0) (W6 i) (W4 i (s .tails (L .tree .elem p i)))
       (Below (ahead N C (W3 i)))
       (λ _. omega arith)
       (λ _. omega arith))
   falls (W4 i t) a = to (ahead N C (W4 i t)) s (W5 i) (omega arith)
   falls (W5 i) (inl a) =
-      let w = s .st (L .tree .node p i) in
+      let w = s .statuses (L .tree .node p i) in
       rw (ne-eqb w WAIT (omega arith), le-leb w 1000 a) (to (ahead N C (W5 i)) s writes (omega arith))
   falls (W5 i) (inr a) =
-      let w = s .st (L .tree .node p i) in
+      let w = s .statuses (L .tree .node p i) in
       let b : (WAIT < tell i) × (1000 < tell i) = tell-big i in
       rw (ne-eqb w WAIT (omega arith), lt-leb w 1000 (omega arith), eq-eqb w (tell i) a)
       (to (ahead N C (W5 i)) s (W6 i) (omega arith))
@@ -174,39 +174,39 @@ module _ (L : Plan) (s : Lock) (p : ℕ) where
       (λ _. omega arith))
   falls (W7 k) a = to (ahead N C (W7 k)) s (next L s p k (W8 0) W7)
       (next-below k (ahead N C (W7 k)) (W8 0) W7 (λ z. omega arith) (λ z. omega arith))
-  falls (W8 k) a = to (ahead N C (W8 k)) s (W9 k (s .ar k)) (omega arith)
-  falls (W9 k n) a = rw (eq-eqb n (2 ^ 62 + s .de k) (a .1))
+  falls (W8 k) a = to (ahead N C (W8 k)) s (W9 k (s .arrives k)) (omega arith)
+  falls (W9 k n) a = rw (eq-eqb n (2 ^ 62 + s .departs k) (a .1))
       (to (ahead N C (W9 k n)) s (next L s p k writes W8)
       (next-below k (ahead N C (W9 k n)) writes W8 (λ z. omega arith) (λ z. omega arith)))
-  falls (U1 i) a = to (ahead N C (U1 i)) s (U2 i (s .st (L .tree .node p i))) (omega arith)
+  falls (U1 i) a = to (ahead N C (U1 i)) s (U2 i (s .statuses (L .tree .node p i))) (omega arith)
   falls (U2 i n) a = to (ahead N C (U2 i n)) s
-      (cond (eqb (s .nx (L .tree .node p i)) 0) (cond (leb i 2) U4 (U1 (pred i)))
-      (cond (ltb n (L .cap p i)) (U3 i (s .nx (L .tree .node p i)) (suc n))
+      (cond (eqb (s .nexts (L .tree .node p i)) 0) (cond (leb i 2) U4 (U1 (pred i)))
+      (cond (ltb n (L .cap p i)) (U3 i (s .nexts (L .tree .node p i)) (suc n))
       (cond (leb i 2) U4 (U1 (pred i)))))
-      (choice (ahead N C (U2 i n)) (eqb (s .nx (L .tree .node p i)) 0) (ltb n (L .cap p i))
-      (cond (leb i 2) U4 (U1 (pred i))) (U3 i (s .nx (L .tree .node p i)) (suc n))
+      (choice (ahead N C (U2 i n)) (eqb (s .nexts (L .tree .node p i)) 0) (ltb n (L .cap p i))
+      (cond (leb i 2) U4 (U1 (pred i))) (U3 i (s .nexts (L .tree .node p i)) (suc n))
       (cond-both (leb i 2) U4 (U1 (pred i)) (Below (ahead N C (U2 i n)))
       (λ z. omega arith)
       (λ z. omega arith))
       (omega arith))
   falls (U3 i t n) a = to (ahead N C (U3 i t n)) s (done L s p i) (done-below i (ahead N C (U3 i t n)) a (omega arith))
-  falls U4 a = to (ahead N C U4) s (U5 (s .st (L .tree .node p 1))) (omega arith)
+  falls U4 a = to (ahead N C U4) s (U5 (s .statuses (L .tree .node p 1))) (omega arith)
   falls (U5 n) a = to (ahead N C (U5 n)) s
-      (cond (eqb (s .nx (L .tree .node p 1)) 0) (U6 0)
-      (cond (ltb n (L .cap p 1)) (U3 1 (s .nx (L .tree .node p 1)) (suc n)) (U6 0)))
-      (choice (ahead N C (U5 n)) (eqb (s .nx (L .tree .node p 1)) 0) (ltb n (L .cap p 1)) (U6 0)
-      (U3 1 (s .nx (L .tree .node p 1)) (suc n)) (omega arith) (omega arith))
-  falls (U6 k) a = to (ahead N C (U6 k)) s (U7 k (s .de k)) (omega arith)
+      (cond (eqb (s .nexts (L .tree .node p 1)) 0) (U6 0)
+      (cond (ltb n (L .cap p 1)) (U3 1 (s .nexts (L .tree .node p 1)) (suc n)) (U6 0)))
+      (choice (ahead N C (U5 n)) (eqb (s .nexts (L .tree .node p 1)) 0) (ltb n (L .cap p 1)) (U6 0)
+      (U3 1 (s .nexts (L .tree .node p 1)) (suc n)) (omega arith) (omega arith))
+  falls (U6 k) a = to (ahead N C (U6 k)) s (U7 k (s .departs k)) (omega arith)
   falls (U7 k n) a = to (ahead N C (U7 k n)) s (next L s p k (U8 1) U6)
       (next-below k (ahead N C (U7 k n)) (U8 1) U6 (λ z. omega arith) (λ z. omega arith))
   falls (U8 i) a = to (ahead N C (U8 i)) s
-      (cond (eqb (s .nx (L .tree .node p i)) 0) (U10 i) (U9 i (s .nx (L .tree .node p i))))
-      (cond-both (eqb (s .nx (L .tree .node p i)) 0) (U10 i) (U9 i (s .nx (L .tree .node p i)))
+      (cond (eqb (s .nexts (L .tree .node p i)) 0) (U10 i) (U9 i (s .nexts (L .tree .node p i))))
+      (cond-both (eqb (s .nexts (L .tree .node p i)) 0) (U10 i) (U9 i (s .nexts (L .tree .node p i)))
       (Below (ahead N C (U8 i)))
       (λ _. omega arith)
       (λ _. omega arith))
   falls (U9 i t) a = to (ahead N C (U9 i t)) s (done L s p i) (done-below i (ahead N C (U9 i t)) a (omega arith))
-  falls (U10 i) a = rw (eq-eqb (s .tl (L .tree .elem p i)) (L .tree .node p i) (a .1))
+  falls (U10 i) a = rw (eq-eqb (s .tails (L .tree .elem p i)) (L .tree .node p i) (a .1))
       (to (ahead N C (U10 i)) s (done L s p i) (done-below i (ahead N C (U10 i)) (a .0) (omega arith)))
   falls R1 a = absurd a
   falls R2 a = absurd a
@@ -222,11 +222,12 @@ module _ (L : Plan) (s : Lock) (p : ℕ) where
 pub record Follower (T : Tree) (s : State) (p i : ℕ) : Type 0 where
   pub rank : ℕ
   pub on : On (T .top rank) i
-  pub how : ((s .ph rank ≡ wait i) × (s .nx (T .node p i) ≡ T .node rank i)) ⊎ (s .ph rank ≡ link i (T .node p i))
+  pub how : ((s .phases rank ≡ wait i) × (s .nexts (T .node p i) ≡ T .node rank i))
+      ⊎ (s .phases rank ≡ link i (T .node p i))
 
-pub follower : (T : Tree) (G : Lawful T) (s : State) (v : Inv T s) (p i : ℕ) → s .ph p ≡ hold i
-    → s .tl (T .elem p i) ≢ T .node p i → Follower T s p i
-follower T G s v p i e ne = found (v .member k (s .lo k) (omega arith) more)
+pub follower : (T : Tree) (G : Lawful T) (s : State) (v : Inv T s) (p i : ℕ) → s .phases p ≡ hold i
+    → s .tails (T .elem p i) ≢ T .node p i → Follower T s p i
+follower T G s v p i e ne = found (v .member k (s .head-turn k) (omega arith) more)
   where
     k : ℕ
     k = T .elem p i
@@ -237,18 +238,19 @@ follower T G s v p i e ne = found (v .member k (s .lo k) (omega arith) more)
     hd : Heads T s p i
     hd = v .heads p i on (omega (arith, ap (level (T .top p)) e))
 
-    more : suc (s .lo k) < s .hi k
+    more : suc (s .head-turn k) < s .next-turn k
     more = ⊎-elim
-        (λ (z : suc (s .lo k) ≡ s .hi k). absurd (ne (v .tail k (s .lo k) (omega arith) z ∙ hd .is)))
-        (λ (z : suc (s .lo k) ≡ s .hi k → ⊥). omega (arith, hd .some))
-        (cases-eq (suc (s .lo k)) (s .hi k))
+        (λ (z : suc (s .head-turn k) ≡ s .next-turn k).
+        absurd (ne (v .tail k (s .head-turn k) (omega arith) z ∙ hd .is)))
+        (λ (z : suc (s .head-turn k) ≡ s .next-turn k → ⊥). omega (arith, hd .some))
+        (cases-eq (suc (s .head-turn k)) (s .next-turn k))
 
-    found : Member T s k (suc (s .lo k)) → Follower T s p i
+    found : Member T s k (suc (s .head-turn k)) → Follower T s p i
     found m =
         record {
           rank = m .rank;
           on = omega (arith, same, m .on);
-          how = by (waits-cases (s .ph (m .rank)) i (subst (Waits (s .ph (m .rank))) same (m .waits)));
+          how = by (waits-cases (s .phases (m .rank)) i (subst (Waits (s .phases (m .rank))) same (m .waits)));
         }
       where
         same : m .lvl ≡ i
@@ -257,17 +259,19 @@ follower T G s v p i e ne = found (v .member k (s .lo k) (omega arith) more)
         queue : T .elem (m .rank) i ≡ k
         queue = ap (T .elem (m .rank)) (sym same) ∙ m .queue
 
-        here : (b : Behind T s (m .rank) i) → s .at (T .elem (m .rank) i) (b .turn) ≡ T .node p i
+        here : (b : Behind T s (m .rank) i) → s .node-at (T .elem (m .rank) i) (b .turn) ≡ T .node p i
         here b = rw (
           queue,
-          turn-is T G s v k (s .lo k) (m .rank) i queue (omega arith) more (m .is ∙ ap (T .node (m .rank)) same) b,
+          turn-is T G s v k (s .head-turn k) (m .rank) i queue (omega arith) more
+              (m .is ∙ ap (T .node (m .rank)) same) b,
         )
             (hd .is)
 
-        by : (s .ph (m .rank) ≡ wait i) ⊎ ((u : ℕ) × (s .ph (m .rank) ≡ link i u))
-            → ((s .ph (m .rank) ≡ wait i) × (s .nx (T .node p i) ≡ T .node (m .rank) i))
-            ⊎ (s .ph (m .rank) ≡ link i (T .node p i))
-        by (inl w) = let a = asked T s v (m .rank) (wait i) w in inl (w, ap (s .nx) (sym (here (a .spot))) ∙ a .linked)
+        by : (s .phases (m .rank) ≡ wait i) ⊎ ((u : ℕ) × (s .phases (m .rank) ≡ link i u))
+            → ((s .phases (m .rank) ≡ wait i) × (s .nexts (T .node p i) ≡ T .node (m .rank) i))
+            ⊎ (s .phases (m .rank) ≡ link i (T .node p i))
+        by (inl w) =
+            let a = asked T s v (m .rank) (wait i) w in inl (w, ap (s .nexts) (sym (here (a .spot))) ∙ a .linked)
         by (inr w) =
             let a = asked T s v (m .rank) (link i (w .0)) (w .1) in
             inr (w .1 ∙ ap (link i) (a .target ∙ here (a .spot)))
@@ -275,7 +279,7 @@ follower T G s v p i e ne = found (v .member k (s .lo k) (omega arith) more)
 -- while no rank carries anything of the counter k and its bit stands, W8 and W9 pass
 pub passes : (P C TR : ℕ) (s : Tally) → Counted P C TR s → (k : ℕ) → k < C → s .bit k ≡ 1
     → ((q : ℕ) → On P q → (tries (s .load q) k ≡ 0) × (Counters.reads (s .load q) k ≡ 0) × (clears (s .load q) k ≡ 0))
-    → s .ar k ≡ 2 ^ 62 + s .de k
+    → s .arrives k ≡ 2 ^ 62 + s .departs k
 passes P C TR s v k l b h =
     let x : total P (λ q. tries (s .load q) k) ≡ 0 =
     total-same P (λ q. 0) (λ q. tries (s .load q) k) (λ q a b. h q (record { from = a; upto = b }) .0)

@@ -15,20 +15,20 @@ pub record Occupant (T : Tree) (s : State) (k a : ℕ) : Type 0 where
   pub lvl : ℕ
   pub on : On (T .top rank) lvl
   pub queue : T .elem rank lvl ≡ k
-  pub is : s .at k a ≡ T .node rank lvl
-  pub near : level (T .top rank) (s .ph rank) ≤ suc lvl
-  pub role : ((a ≡ s .lo k) × (level (T .top rank) (s .ph rank) ≤ lvl)) ⊎ Waits (s .ph rank) lvl
+  pub is : s .node-at k a ≡ T .node rank lvl
+  pub near : level (T .top rank) (s .phases rank) ≤ suc lvl
+  pub role : ((a ≡ s .head-turn k) × (level (T .top rank) (s .phases rank) ≤ lvl)) ⊎ Waits (s .phases rank) lvl
 
 pub record Successor (T : Tree) (s : State) (p i t : ℕ) : Type 0 where
   pub rank : ℕ
   pub on : On (T .top rank) i
   pub queue : T .elem rank i ≡ T .elem p i
-  pub waits : s .ph rank ≡ wait i
-  pub more : suc (s .lo (T .elem p i)) < s .hi (T .elem p i)
-  pub is : s .at (T .elem p i) (suc (s .lo (T .elem p i))) ≡ T .node rank i
+  pub waits : s .phases rank ≡ wait i
+  pub more : suc (s .head-turn (T .elem p i)) < s .next-turn (T .elem p i)
+  pub is : s .node-at (T .elem p i) (suc (s .head-turn (T .elem p i))) ≡ T .node rank i
   pub target : t ≡ T .node rank i
 
-pub asked : (T : Tree) (s : State) → Inv T s → (p : ℕ) (f : Phase) → s .ph p ≡ f → Asks T s p f
+pub asked : (T : Tree) (s : State) → Inv T s → (p : ℕ) (f : Phase) → s .phases p ≡ f → Asks T s p f
 asked T s v p f e = subst (Asks T s p) e (v .asks p)
 
 -- whoever waits at i holds all below it
@@ -64,14 +64,14 @@ waits-cases (give h j t) i w = absurd w
 
 module _ (T : Tree) (G : Lawful T) (s : State) (v : Inv T s) where
   -- two ranks that hold one element have one node there
-  pub one-head : (p r i : ℕ) → On (T .top p) i → On (T .top r) i → level (T .top p) (s .ph p) ≤ i
-      → level (T .top r) (s .ph r) ≤ i → T .elem p i ≡ T .elem r i → T .node p i ≡ T .node r i
+  pub one-head : (p r i : ℕ) → On (T .top p) i → On (T .top r) i → level (T .top p) (s .phases p) ≤ i
+      → level (T .top r) (s .phases r) ≤ i → T .elem p i ≡ T .elem r i → T .node p i ≡ T .node r i
   one-head p r i on on′ h h′ e =
-      sym (v .heads p i on h .is) ∙ (ap (λ k. s .at k (s .lo k)) e ∙ v .heads r i on′ h′ .is)
+      sym (v .heads p i on h .is) ∙ (ap (λ k. s .node-at k (s .head-turn k)) e ∙ v .heads r i on′ h′ .is)
 
   -- two ranks that hold one element are one rank: down to the leaf
   one-holder-by : (d p r i : ℕ) → i + d ≡ T .top p → On (T .top p) i → On (T .top r) i
-      → level (T .top p) (s .ph p) ≤ i → level (T .top r) (s .ph r) ≤ i → T .elem p i ≡ T .elem r i → p ≡ r
+      → level (T .top p) (s .phases p) ≤ i → level (T .top r) (s .phases r) ≤ i → T .elem p i ≡ T .elem r i → p ≡ r
   one-holder-by zero p r i room on on′ h h′ e = ⊎-elim
       (λ (q : p ≡ r). q)
       (λ (q : (i < T .top p) × (i < T .top r) × (T .elem p (suc i) ≡ T .elem r (suc i))). absurd (omega arith))
@@ -82,13 +82,13 @@ module _ (T : Tree) (G : Lawful T) (s : State) (v : Inv T s) where
       one-holder-by d p r (suc i) (omega arith) (omega arith) (omega arith) (omega arith) (omega arith) (q .2))
       (G .below p r i on on′ (one-head p r i on on′ h h′ e))
 
-  pub one-holder : (p r i : ℕ) → On (T .top p) i → On (T .top r) i → level (T .top p) (s .ph p) ≤ i
-      → level (T .top r) (s .ph r) ≤ i → T .elem p i ≡ T .elem r i → p ≡ r
+  pub one-holder : (p r i : ℕ) → On (T .top p) i → On (T .top r) i → level (T .top p) (s .phases p) ≤ i
+      → level (T .top r) (s .phases r) ≤ i → T .elem p i ≡ T .elem r i → p ≡ r
   one-holder p r i on on′ h h′ e = one-holder-by (T .top p - i) p r i (omega arith) on on′ h h′ e
 
   -- a node is used by one rank: two ranks that hold all below it are one
-  pub one-owner : (p r i j : ℕ) → On (T .top p) i → On (T .top r) j → level (T .top p) (s .ph p) ≤ suc i
-      → level (T .top r) (s .ph r) ≤ suc j → T .node p i ≡ T .node r j → (p ≡ r) × (i ≡ j)
+  pub one-owner : (p r i j : ℕ) → On (T .top p) i → On (T .top r) j → level (T .top p) (s .phases p) ≤ suc i
+      → level (T .top r) (s .phases r) ≤ suc j → T .node p i ≡ T .node r j → (p ≡ r) × (i ≡ j)
   one-owner p r i j on on′ h h′ e =
       let same : i ≡ j = G .queue-of p r i j on on′ e .0 in
       let on″ : On (T .top r) i = omega arith in (
@@ -100,32 +100,32 @@ module _ (T : Tree) (G : Lawful T) (s : State) (v : Inv T s) where
         same,
       )
 
-  pub waits-level : (p i : ℕ) → Waits (s .ph p) i → level (T .top p) (s .ph p) ≡ suc i
-  waits-level p i w = level-waits (T .top p) (s .ph p) i w
+  pub waits-level : (p i : ℕ) → Waits (s .phases p) i → level (T .top p) (s .phases p) ≡ suc i
+  waits-level p i w = level-waits (T .top p) (s .phases p) i w
 
-  pub waits-on : (p i : ℕ) → Waits (s .ph p) i → On (T .top p) i
-  waits-on p i w = range-waits (T .top p) (s .ph p) i (v .range p) w
+  pub waits-on : (p i : ℕ) → Waits (s .phases p) i → On (T .top p) i
+  waits-on p i w = range-waits (T .top p) (s .phases p) i (v .range p) w
 
   -- who uses the node at a turn of a queue
-  pub occupant : (k a : ℕ) → s .lo k ≤ a → a < s .hi k → Occupant T s k a
+  pub occupant : (k a : ℕ) → s .head-turn k ≤ a → a < s .next-turn k → Occupant T s k a
   occupant k a h h′ = ⊎-elim
-      (λ (e : a ≡ s .lo k). first e (v .holder k (omega arith)))
-      (λ (e : a ≡ s .lo k → ⊥). later a h h′ e)
-      (cases-eq a (s .lo k))
+      (λ (e : a ≡ s .head-turn k). first e (v .holder k (omega arith)))
+      (λ (e : a ≡ s .head-turn k → ⊥). later a h h′ e)
+      (cases-eq a (s .head-turn k))
     where
-      first : a ≡ s .lo k → Holder T s k → Occupant T s k a
+      first : a ≡ s .head-turn k → Holder T s k → Occupant T s k a
       first e o =
           record {
             rank = o .rank;
             lvl = o .lvl;
             on = o .on;
             queue = o .queue;
-            is = ap (s .at k) e ∙ o .is;
+            is = ap (s .node-at k) e ∙ o .is;
             near = omega arith;
             role = inl (e, o .holds);
           }
 
-      later : (a : ℕ) → s .lo k ≤ a → a < s .hi k → (a ≡ s .lo k → ⊥) → Occupant T s k a
+      later : (a : ℕ) → s .head-turn k ≤ a → a < s .next-turn k → (a ≡ s .head-turn k → ⊥) → Occupant T s k a
       later zero h h′ e = absurd (e (omega arith))
       later (suc a) h h′ e =
           let m : Member T s k (suc a) = v .member k a (omega arith) h′ in
@@ -140,23 +140,23 @@ module _ (T : Tree) (G : Lawful T) (s : State) (v : Inv T s) where
           }
 
   -- the node of a rank that has not joined stands in no queue
-  pub apart : (p i : ℕ) → On (T .top p) i → level (T .top p) (s .ph p) ≡ suc i → (Waits (s .ph p) i → ⊥) → (k a : ℕ)
-      → s .lo k ≤ a → a < s .hi k → s .at k a ≢ T .node p i
+  pub apart : (p i : ℕ) → On (T .top p) i → level (T .top p) (s .phases p) ≡ suc i → (Waits (s .phases p) i → ⊥)
+      → (k a : ℕ) → s .head-turn k ≤ a → a < s .next-turn k → s .node-at k a ≢ T .node p i
   apart p i on h w k a l l′ e =
       let o : Occupant T s k a = occupant k a l l′ in
       let u : (o .rank ≡ p) × (o .lvl ≡ i) =
       one-owner (o .rank) p (o .lvl) i (o .on) on (o .near) (omega arith) (sym (o .is) ∙ e) in
       ⊎-elim
-      (λ (r : (a ≡ s .lo k) × (level (T .top (o .rank)) (s .ph (o .rank)) ≤ o .lvl)).
-      let q : level (T .top (o .rank)) (s .ph (o .rank)) ≡ level (T .top p) (s .ph p) =
-      ap (λ x. level (T .top x) (s .ph x)) (u .0) in
+      (λ (r : (a ≡ s .head-turn k) × (level (T .top (o .rank)) (s .phases (o .rank)) ≤ o .lvl)).
+      let q : level (T .top (o .rank)) (s .phases (o .rank)) ≡ level (T .top p) (s .phases p) =
+      ap (λ x. level (T .top x) (s .phases x)) (u .0) in
       omega arith)
-      (λ (r : Waits (s .ph (o .rank)) (o .lvl)). w (subst₂ (λ x y. Waits (s .ph x) y) (u .0) (u .1) r))
+      (λ (r : Waits (s .phases (o .rank)) (o .lvl)). w (subst₂ (λ x y. Waits (s .phases x) y) (u .0) (u .1) r))
       (o .role)
 
   -- the turn of a rank that stands behind another is the only one with its node
-  pub turn-is : (k a p i : ℕ) → T .elem p i ≡ k → s .lo k ≤ a → suc a < s .hi k → s .at k (suc a) ≡ T .node p i
-      → (b : Behind T s p i) → b .turn ≡ a
+  pub turn-is : (k a p i : ℕ) → T .elem p i ≡ k → s .head-turn k ≤ a → suc a < s .next-turn k
+      → s .node-at k (suc a) ≡ T .node p i → (b : Behind T s p i) → b .turn ≡ a
   turn-is k a p i e l h is b =
       let q : suc (b .turn) ≡ suc a =
       v .once k (suc (b .turn)) (suc a) (rw (← e) (omega arith)) (rw (← e) (b .high)) (omega arith) h
@@ -164,24 +164,24 @@ module _ (T : Tree) (G : Lawful T) (s : State) (v : Inv T s) where
       omega arith
 
   -- who stands behind a rank that is about to hand over
-  pub successor : (p h i t : ℕ) → s .ph p ≡ give h i t → Successor T s p i t
+  pub successor : (p h i t : ℕ) → s .phases p ≡ give h i t → Successor T s p i t
   successor p h i t e =
-      let rg = range-of (s .ph p) (T .top p) (v .range p) (give h i t) e in
+      let rg = range-of (s .phases p) (T .top p) (v .range p) (give h i t) e in
       let on : On (T .top p) i = omega arith in
       let k = T .elem p i in
-      let lv : level (T .top p) (s .ph p) ≡ h = ap (level (T .top p)) e in
+      let lv : level (T .top p) (s .phases p) ≡ h = ap (level (T .top p)) e in
       let hd : Heads T s p i = v .heads p i on (omega arith) in
-      let g : (t ≡ s .nx (T .node p i)) × (t ≢ 0) = asked T s v p (give h i t) e in
+      let g : (t ≡ s .nexts (T .node p i)) × (t ≢ 0) = asked T s v p (give h i t) e in
       ⊎-elim
-      (λ (z : suc (s .lo k) ≡ s .hi k).
-      absurd (g .1 (g .0 ∙ (ap (s .nx) (sym (hd .is)) ∙ v .ends k (s .lo k) (omega arith) z))))
-      (λ (z : suc (s .lo k) ≡ s .hi k → ⊥).
-      found hd on (omega arith) (v .member k (s .lo k) (omega arith) (omega arith)))
-      (cases-eq (suc (s .lo k)) (s .hi k))
+      (λ (z : suc (s .head-turn k) ≡ s .next-turn k).
+      absurd (g .1 (g .0 ∙ (ap (s .nexts) (sym (hd .is)) ∙ v .ends k (s .head-turn k) (omega arith) z))))
+      (λ (z : suc (s .head-turn k) ≡ s .next-turn k → ⊥).
+      found hd on (omega arith) (v .member k (s .head-turn k) (omega arith) (omega arith)))
+      (cases-eq (suc (s .head-turn k)) (s .next-turn k))
     where
-      found : Heads T s p i → On (T .top p) i → suc (s .lo (T .elem p i)) < s .hi (T .elem p i)
-          → Member T s (T .elem p i) (suc (s .lo (T .elem p i))) → Successor T s p i t
-      found hd on more m = by (waits-cases (s .ph r) i (subst (Waits (s .ph r)) same (m .waits)))
+      found : Heads T s p i → On (T .top p) i → suc (s .head-turn (T .elem p i)) < s .next-turn (T .elem p i)
+          → Member T s (T .elem p i) (suc (s .head-turn (T .elem p i))) → Successor T s p i t
+      found hd on more m = by (waits-cases (s .phases r) i (subst (Waits (s .phases r)) same (m .waits)))
         where
           r : ℕ
           r = m .rank
@@ -195,17 +195,17 @@ module _ (T : Tree) (G : Lawful T) (s : State) (v : Inv T s) where
           queue′ : T .elem r i ≡ T .elem p i
           queue′ = ap (T .elem r) (sym same) ∙ m .queue
 
-          is′ : s .at (T .elem p i) (suc (s .lo (T .elem p i))) ≡ T .node r i
+          is′ : s .node-at (T .elem p i) (suc (s .head-turn (T .elem p i))) ≡ T .node r i
           is′ = m .is ∙ ap (T .node r) same
 
-          g : (t ≡ s .nx (T .node p i)) × (t ≢ 0)
+          g : (t ≡ s .nexts (T .node p i)) × (t ≢ 0)
           g = asked T s v p (give h i t) e
 
-          here : (b : Behind T s r i) → s .at (T .elem r i) (b .turn) ≡ T .node p i
-          here b =
-              rw (queue′, turn-is (T .elem p i) (s .lo (T .elem p i)) r i queue′ (omega arith) more is′ b) (hd .is)
+          here : (b : Behind T s r i) → s .node-at (T .elem r i) (b .turn) ≡ T .node p i
+          here b = rw (queue′, turn-is (T .elem p i) (s .head-turn (T .elem p i)) r i queue′ (omega arith) more is′ b)
+              (hd .is)
 
-          by : (s .ph r ≡ wait i) ⊎ ((u : ℕ) × (s .ph r ≡ link i u)) → Successor T s p i t
+          by : (s .phases r ≡ wait i) ⊎ ((u : ℕ) × (s .phases r ≡ link i u)) → Successor T s p i t
           by (inl w) =
               let ww = asked T s v r (wait i) w in
               record {
@@ -215,15 +215,15 @@ module _ (T : Tree) (G : Lawful T) (s : State) (v : Inv T s) where
                 waits = w;
                 more = more;
                 is = is′;
-                target = g .0 ∙ (ap (s .nx) (sym (here (ww .spot))) ∙ ww .linked);
+                target = g .0 ∙ (ap (s .nexts) (sym (here (ww .spot))) ∙ ww .linked);
               }
           by (inr w) =
               let ll = asked T s v r (link i (w .0)) (w .1) in
-              absurd (g .1 (g .0 ∙ (ap (s .nx) (sym (here (ll .spot))) ∙ ll .none)))
+              absurd (g .1 (g .0 ∙ (ap (s .nexts) (sym (here (ll .spot))) ∙ ll .none)))
 
   -- a node stands in one queue, at one turn
-  pub one-turn : (k m a b : ℕ) → s .lo k ≤ a → a < s .hi k → s .lo m ≤ b → b < s .hi m → s .at k a ≡ s .at m b
-      → (k ≡ m) × (a ≡ b)
+  pub one-turn : (k m a b : ℕ) → s .head-turn k ≤ a → a < s .next-turn k → s .head-turn m ≤ b → b < s .next-turn m
+      → s .node-at k a ≡ s .node-at m b → (k ≡ m) × (a ≡ b)
   one-turn k m a b l l′ h h′ e =
       let o : Occupant T s k a = occupant k a l l′ in
       let u : Occupant T s m b = occupant m b h h′ in
@@ -231,4 +231,4 @@ module _ (T : Tree) (G : Lawful T) (s : State) (v : Inv T s) where
       sym (o .queue)
       ∙ (G .queue-of (o .rank) (u .rank) (o .lvl) (u .lvl) (o .on) (u .on) (sym (o .is) ∙ (e ∙ u .is)) .1
       ∙ u .queue) in
-      (z, v .once k a b l l′ (rw z h) (rw z h′) (e ∙ ap (λ x. s .at x b) (sym z)))
+      (z, v .once k a b l l′ (rw z h) (rw z h′) (e ∙ ap (λ x. s .node-at x b) (sym z)))

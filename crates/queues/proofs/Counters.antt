@@ -16,13 +16,14 @@ abbrev pub Local : Load → Load → ℕ → Type 0
 Local l m c = (d : ℕ) → d ≢ c → (tries m d ≡ tries l d) × (reads m d ≡ reads l d) × (clears m d ≡ clears l d)
 
 -- rank p's load changes, and with it the words of the counter c
-pub record Shift (s : Tally) (p c : ℕ) (load : ℕ → Load) (ar de : ℕ → ℕ) : Type 0 where
+pub record Shift (s : Tally) (p c : ℕ) (load : ℕ → Load) (arrives departs : ℕ → ℕ) : Type 0 where
   pub others : (q : ℕ) → q ≢ p → load q ≡ s .load q
   pub local : Local (s .load p) (load p) c
-  pub ar-other : (d : ℕ) → d ≢ c → ar d ≡ s .ar d
-  pub de-other : (d : ℕ) → d ≢ c → de d ≡ s .de d
+  pub arrive-other : (d : ℕ) → d ≢ c → arrives d ≡ s .arrives d
+  pub depart-other : (d : ℕ) → d ≢ c → departs d ≡ s .departs d
 
-module _ (P : ℕ) (s : Tally) (p c : ℕ) (on : On P p) (load : ℕ → Load) (ar de : ℕ → ℕ) (m : Shift s p c load ar de)
+module _ (P : ℕ) (s : Tally) (p c : ℕ) (on : On P p) (load : ℕ → Load) (arrives departs : ℕ → ℕ)
+    (m : Shift s p c load arrives departs)
   where
     -- a sum at another counter is as it was
     pub away : (w : Load → ℕ → ℕ) (d : ℕ) → w (load p) d ≡ w (s .load p) d
@@ -38,28 +39,30 @@ module _ (P : ℕ) (s : Tally) (p c : ℕ) (on : On P p) (load : ℕ → Load) (
     moves w = total-swap P (λ q. w (s .load q) c) (λ q. w (load q) c) p on (λ q a. ap (λ l. w l c) (m .others q a))
 
 abbrev pub shifted : Tally → (ℕ → Load) → (ℕ → ℕ) → (ℕ → ℕ) → Tally
-shifted s load ar de = record { load = load; gate = s .gate; ar = ar; de = de; bit = s .bit }
+shifted s load arrives departs =
+    record { load = load; gate = s .gate; arrives = arrives; departs = departs; bit = s .bit }
 
 -- rows R1 (refused), R2, R5, R6, R7, U6 and a reader's leave: nobody comes in, and what is counted moves or falls
-pub record Drains (s : Tally) (p c : ℕ) (load : ℕ → Load) (ar de : ℕ → ℕ) : Type 0 where
-  pub shift : Shift s p c load ar de
-  pub flow : ar c + s .de c + tries (s .load p) c + reads (s .load p) c + clears (s .load p) c
-      ≡ s .ar c + de c + tries (load p) c + reads (load p) c + clears (load p) c
-  pub fall : de c + reads (load p) c + clears (load p) c ≤ s .de c + reads (s .load p) c + clears (s .load p) c
-  pub fall-reads : de c + reads (load p) c ≤ s .de c + reads (s .load p) c
+pub record Drains (s : Tally) (p c : ℕ) (load : ℕ → Load) (arrives departs : ℕ → ℕ) : Type 0 where
+  pub shift : Shift s p c load arrives departs
+  pub flow : arrives c + s .departs c + tries (s .load p) c + reads (s .load p) c + clears (s .load p) c
+      ≡ s .arrives c + departs c + tries (load p) c + reads (load p) c + clears (load p) c
+  pub fall : departs c + reads (load p) c + clears (load p) c
+      ≤ s .departs c + reads (s .load p) c + clears (s .load p) c
+  pub fall-reads : departs c + reads (load p) c ≤ s .departs c + reads (s .load p) c
   pub outside : (d : ℕ) → load p ≢ inside d
 
-module _ (P C TR : ℕ) (s : Tally) (v : Counted P C TR s) (p c : ℕ) (on : On P p) (load : ℕ → Load) (ar de : ℕ → ℕ)
-    (m : Drains s p c load ar de) where
+module _ (P C TR : ℕ) (s : Tally) (v : Counted P C TR s) (p c : ℕ) (on : On P p) (load : ℕ → Load)
+    (arrives departs : ℕ → ℕ) (m : Drains s p c load arrives departs) where
   abbrev s′ : Tally
-  s′ = shifted s load ar de
+  s′ = shifted s load arrives departs
 
   here : c < C → Count P TR s′ c
   here l =
       let o = v .each c l in
-      let a = moves P s p c on load ar de (m .shift) tries in
-      let b = moves P s p c on load ar de (m .shift) reads in
-      let x = moves P s p c on load ar de (m .shift) clears in
+      let a = moves P s p c on load arrives departs (m .shift) tries in
+      let b = moves P s p c on load arrives departs (m .shift) reads in
+      let x = moves P s p c on load arrives departs (m .shift) clears in
       record {
         sum = omega (arith, o .sum, m .flow);
         small = omega (arith, o .small, m .fall);
@@ -71,23 +74,23 @@ module _ (P C TR : ℕ) (s : Tally) (v : Counted P C TR s) (p c : ℕ) (on : On 
   there d ne l =
       let o = v .each d l in
       let w = m .shift .local d ne in
-      let a = away P s p c on load ar de (m .shift) tries d (w .0) in
-      let b = away P s p c on load ar de (m .shift) reads d (w .1) in
-      let x = away P s p c on load ar de (m .shift) clears d (w .2) in
-      let y = m .shift .ar-other d ne in
-      let z = m .shift .de-other d ne in
+      let a = away P s p c on load arrives departs (m .shift) tries d (w .0) in
+      let b = away P s p c on load arrives departs (m .shift) reads d (w .1) in
+      let x = away P s p c on load arrives departs (m .shift) clears d (w .2) in
+      let y = m .shift .arrive-other d ne in
+      let z = m .shift .depart-other d ne in
       record { sum = omega (arith, o .sum); small = omega (arith, o .small); bits = o .bits; stands = o .stands }
 
-  seen′ : (k : ℕ) → (q n : ℕ) → s .gate q ≡ reading k n → F + de k + total P (λ p. reads (load p) k) ≤ n
+  seen′ : (k : ℕ) → (q n : ℕ) → s .gate q ≡ reading k n → F + departs k + total P (λ p. reads (load p) k) ≤ n
   seen′ = split c
-      (λ k. (q n : ℕ) → s .gate q ≡ reading k n → F + de k + total P (λ p. reads (load p) k) ≤ n)
-      (λ q n e. omega (arith, v .seen q c n e, m .fall-reads, moves P s p c on load ar de (m .shift) reads))
+      (λ k. (q n : ℕ) → s .gate q ≡ reading k n → F + departs k + total P (λ p. reads (load p) k) ≤ n)
+      (λ q n e. omega (arith, v .seen q c n e, m .fall-reads, moves P s p c on load arrives departs (m .shift) reads))
       (λ k ne q n e.
       omega (
         arith,
         v .seen q k n e,
-        m .shift .de-other k ne,
-        away P s p c on load ar de (m .shift) reads k (m .shift .local k ne .1),
+        m .shift .depart-other k ne,
+        away P s p c on load arrives departs (m .shift) reads k (m .shift .local k ne .1),
       ))
 
   pub drained : Counted P C TR s′
@@ -104,17 +107,17 @@ module _ (P C TR : ℕ) (s : Tally) (v : Counted P C TR s) (p c : ℕ) (on : On 
       }
 
 -- row R1 when it enters: the old word was below TR, so no bit stands
-pub record Enters (TR : ℕ) (s : Tally) (p c : ℕ) (load : ℕ → Load) (ar : ℕ → ℕ) : Type 0 where
-  pub shift : Shift s p c load ar (s .de)
+pub record Enters (TR : ℕ) (s : Tally) (p c : ℕ) (load : ℕ → Load) (arrives : ℕ → ℕ) : Type 0 where
+  pub shift : Shift s p c load arrives (s .departs)
   pub before : s .load p ≡ none
   pub after : load p ≡ inside c
-  pub word : ar c ≡ suc (s .ar c)
-  pub room : s .ar c < TR
+  pub word : arrives c ≡ suc (s .arrives c)
+  pub room : s .arrives c < TR
 
 module _ (P C TR : ℕ) (cap : TR ≤ F) (s : Tally) (v : Counted P C TR s) (p c : ℕ) (in-c : c < C) (on : On P p)
-    (load : ℕ → Load) (ar : ℕ → ℕ) (m : Enters TR s p c load ar) where
+    (load : ℕ → Load) (arrives : ℕ → ℕ) (m : Enters TR s p c load arrives) where
   abbrev e′ : Tally
-  e′ = shifted s load ar (s .de)
+  e′ = shifted s load arrives (s .departs)
 
   no-bit : s .bit c ≡ 0
   no-bit = let o = v .each c in-c in omega (arith, o .sum, o .bits, m .room)
@@ -128,9 +131,9 @@ module _ (P C TR : ℕ) (cap : TR ≤ F) (s : Tally) (v : Counted P C TR s) (p c
   enter-here : Count P TR e′ c
   enter-here =
       let o = v .each c in-c in
-      let a = moves P s p c on load ar (s .de) (m .shift) tries in
-      let b = moves P s p c on load ar (s .de) (m .shift) reads in
-      let x = moves P s p c on load ar (s .de) (m .shift) clears in
+      let a = moves P s p c on load arrives (s .departs) (m .shift) tries in
+      let b = moves P s p c on load arrives (s .departs) (m .shift) reads in
+      let x = moves P s p c on load arrives (s .departs) (m .shift) clears in
       record {
         sum = omega (arith, o .sum, m .word, t-old, t-new);
         small = omega (arith, o .sum, m .room, no-bit, t-old, t-new);
@@ -142,10 +145,10 @@ module _ (P C TR : ℕ) (cap : TR ≤ F) (s : Tally) (v : Counted P C TR s) (p c
   enter-there d ne l =
       let o = v .each d l in
       let w = m .shift .local d ne in
-      let a = away P s p c on load ar (s .de) (m .shift) tries d (w .0) in
-      let b = away P s p c on load ar (s .de) (m .shift) reads d (w .1) in
-      let x = away P s p c on load ar (s .de) (m .shift) clears d (w .2) in
-      let y = m .shift .ar-other d ne in
+      let a = away P s p c on load arrives (s .departs) (m .shift) tries d (w .0) in
+      let b = away P s p c on load arrives (s .departs) (m .shift) reads d (w .1) in
+      let x = away P s p c on load arrives (s .departs) (m .shift) clears d (w .2) in
+      let y = m .shift .arrive-other d ne in
       record { sum = omega (arith, o .sum); small = omega (arith, o .small); bits = o .bits; stands = o .stands }
 
   -- while the bit of c is down nobody marks c
@@ -178,21 +181,21 @@ module _ (P C TR : ℕ) (cap : TR ≤ F) (s : Tally) (v : Counted P C TR s) (p c
             (λ q a on′ z. v .kept r d l k q on′ (sym (m .shift .others q a) ∙ z));
         seen = λ q k n e.
             split c
-            (λ k. s .gate q ≡ reading k n → F + s .de k + total P (λ p. reads (load p) k) ≤ n)
+            (λ k. s .gate q ≡ reading k n → F + s .departs k + total P (λ p. reads (load p) k) ≤ n)
             (λ e. absurd (unmarked q (subst (λ g. Marks g c) (sym e) tt)))
             (λ k ne e.
             omega (
               arith,
               v .seen q k n e,
-              away P s p c on load ar (s .de) (m .shift) reads k (m .shift .local k ne .1),
+              away P s p c on load arrives (s .departs) (m .shift) reads k (m .shift .local k ne .1),
             ))
             k
             e;
       }
 
 -- row W9: where the word read before is F and the departures, nobody of the counter is in
-pub nobody-in : (P C TR : ℕ) (s : Tally) → Counted P C TR s → (p k n : ℕ) → s .gate p ≡ reading k n → n ≡ F + s .de k
-    → (q : ℕ) → On P q → s .load q ≢ inside k
+pub nobody-in : (P C TR : ℕ) (s : Tally) → Counted P C TR s → (p k n : ℕ) → s .gate p ≡ reading k n
+    → n ≡ F + s .departs k → (q : ℕ) → On P q → s .load q ≢ inside k
 nobody-in P C TR s v p k n e z q on w =
     let a : reads (s .load q) k ≤ total P (λ p. reads (s .load p) k) = total-part P (λ p. reads (s .load p) k) q on in
     let b : reads (s .load q) k ≡ 1 = ap (λ l. reads l k) w ∙ pick-same k 1 in

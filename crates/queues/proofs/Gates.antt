@@ -19,19 +19,21 @@ NotWide wide = Unit {0}
 NotWide (lowering k) = ⊥
 
 pub record Flips (P C : ℕ) (s : Tally) (p k : ℕ) (s′ : Tally) : Type 0 where
-  pub shift : Shift s p k (s′ .load) (s′ .ar) (s′ .de)
+  pub shift : Shift s p k (s′ .load) (s′ .arrives) (s′ .departs)
   pub bit-other : (d : ℕ) → d ≢ k → s′ .bit d ≡ s .bit d
   pub bit-small : s′ .bit k ≤ 1
-  pub flow : s′ .ar k + F * s .bit k + s .de k + tries (s .load p) k + reads (s .load p) k + clears (s .load p) k
-      ≡ s .ar k + F * s′ .bit k + s′ .de k + tries (s′ .load p) k + reads (s′ .load p) k + clears (s′ .load p) k
-  pub fall : s′ .de k + reads (s′ .load p) k + clears (s′ .load p) k
-      ≤ s .de k + reads (s .load p) k + clears (s .load p) k
+  pub flow : s′ .arrives k + F * s .bit k + s .departs k + tries (s .load p) k + reads (s .load p) k
+      + clears (s .load p) k
+      ≡ s .arrives k + F * s′ .bit k + s′ .departs k + tries (s′ .load p) k + reads (s′ .load p) k
+      + clears (s′ .load p) k
+  pub fall : s′ .departs k + reads (s′ .load p) k + clears (s′ .load p) k
+      ≤ s .departs k + reads (s .load p) k + clears (s .load p) k
   pub gates : (q : ℕ) → q ≢ p → s′ .gate q ≡ s .gate q
   pub alone : (q : ℕ) → q ≢ p → s .gate q ≡ shut
   pub marks : (c : ℕ) → c < C → Marks (s′ .gate p) c → s′ .bit c ≡ 1
   pub stands : (c : ℕ) → c < C → s′ .bit c ≡ 1 → Marks (s′ .gate p) c
   pub keeps : (c : ℕ) → c < C → Keeps (s′ .gate p) c → (q : ℕ) → On P q → s′ .load q ≢ inside c
-  pub sees : (j n : ℕ) → s′ .gate p ≡ reading j n → F + s′ .de j + total P (λ p. reads (s′ .load p) j) ≤ n
+  pub sees : (j n : ℕ) → s′ .gate p ≡ reading j n → F + s′ .departs j + total P (λ p. reads (s′ .load p) j) ≤ n
 
 module _ (P C TR : ℕ) (s : Tally) (v : Counted P C TR s) (p k : ℕ) (on : On P p) (s′ : Tally) (m : Flips P C s p k s′)
   where
@@ -41,9 +43,9 @@ module _ (P C TR : ℕ) (s : Tally) (v : Counted P C TR s) (p k : ℕ) (on : On 
     here : k < C → Count P TR s′ k
     here l =
         let o = v .each k l in
-        let a = moves P s p k on (s′ .load) (s′ .ar) (s′ .de) (m .shift) tries in
-        let b = moves P s p k on (s′ .load) (s′ .ar) (s′ .de) (m .shift) reads in
-        let x = moves P s p k on (s′ .load) (s′ .ar) (s′ .de) (m .shift) clears in
+        let a = moves P s p k on (s′ .load) (s′ .arrives) (s′ .departs) (m .shift) tries in
+        let b = moves P s p k on (s′ .load) (s′ .arrives) (s′ .departs) (m .shift) reads in
+        let x = moves P s p k on (s′ .load) (s′ .arrives) (s′ .departs) (m .shift) clears in
         record {
           sum = omega (arith, o .sum, m .flow);
           small = omega (arith, o .small, m .fall);
@@ -55,11 +57,11 @@ module _ (P C TR : ℕ) (s : Tally) (v : Counted P C TR s) (p k : ℕ) (on : On 
     there d ne l =
         let o = v .each d l in
         let w = m .shift .local d ne in
-        let a = away P s p k on (s′ .load) (s′ .ar) (s′ .de) (m .shift) tries d (w .0) in
-        let b = away P s p k on (s′ .load) (s′ .ar) (s′ .de) (m .shift) reads d (w .1) in
-        let x = away P s p k on (s′ .load) (s′ .ar) (s′ .de) (m .shift) clears d (w .2) in
-        let y = m .shift .ar-other d ne in
-        let z = m .shift .de-other d ne in
+        let a = away P s p k on (s′ .load) (s′ .arrives) (s′ .departs) (m .shift) tries d (w .0) in
+        let b = away P s p k on (s′ .load) (s′ .arrives) (s′ .departs) (m .shift) reads d (w .1) in
+        let x = away P s p k on (s′ .load) (s′ .arrives) (s′ .departs) (m .shift) clears d (w .2) in
+        let y = m .shift .arrive-other d ne in
+        let z = m .shift .depart-other d ne in
         let u = m .bit-other d ne in
         record {
           sum = omega (arith, o .sum);
@@ -81,7 +83,7 @@ module _ (P C TR : ℕ) (s : Tally) (v : Counted P C TR s) (p k : ℕ) (on : On 
               (m .keeps)
               (λ q a c l w. absurd (subst (λ g. Keeps g c) (shut-o q a) w));
           seen = split p
-              (λ q. (j n : ℕ) → s′ .gate q ≡ reading j n → F + s′ .de j + total P (λ p. reads (s′ .load p) j) ≤ n)
+              (λ q. (j n : ℕ) → s′ .gate q ≡ reading j n → F + s′ .departs j + total P (λ p. reads (s′ .load p) j) ≤ n)
               (m .sees)
               (λ q a j n e. absurd (subst (λ g. Marks g j) (sym e ∙ shut-o q a) tt));
         }
@@ -95,7 +97,7 @@ pub record Trades (s : Tally) (p r : ℕ) (gate : ℕ → Gate) : Type 0 where
   pub gates : (q : ℕ) → q ≢ p → q ≢ r → gate q ≡ s .gate q
 
 pub traded : (P C TR : ℕ) (s : Tally) → Counted P C TR s → (p r : ℕ) (gate : ℕ → Gate) → Trades s p r gate
-    → Counted P C TR (record { load = s .load; gate = gate; ar = s .ar; de = s .de; bit = s .bit })
+    → Counted P C TR (record { load = s .load; gate = gate; arrives = s .arrives; departs = s .departs; bit = s .bit })
 traded P C TR s v p r gate m =
     record {
       each = λ c l.
@@ -117,7 +119,7 @@ traded P C TR s v p r gate m =
           (λ c l w. v .kept p c l (subst (λ g. Keeps g c) (sym (m .was)) tt))
           (λ q a b c l w. absurd (subst (λ g. Keeps g c) (m .gates q a b ∙ m .alone q a) w));
       seen = split₂ p r
-          (λ q. (j n : ℕ) → gate q ≡ reading j n → F + s .de j + total P (λ p. reads (s .load p) j) ≤ n)
+          (λ q. (j n : ℕ) → gate q ≡ reading j n → F + s .departs j + total P (λ p. reads (s .load p) j) ≤ n)
           (λ j n e. absurd (subst (λ g. Marks g j) (sym e ∙ m .gives) tt))
           (λ j n e. absurd (subst NotWide (sym (m .takes) ∙ e) tt))
           (λ q a b j n e. absurd (subst (λ g. Marks g j) (sym e ∙ (m .gates q a b ∙ m .alone q a)) tt));

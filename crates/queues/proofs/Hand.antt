@@ -11,70 +11,83 @@ use Rattle.queues.proofs.Base.{range-of, one-holder, one-owner, waits-level, w
 use Rattle.queues.proofs.Split.{split, split₂, calm-asks}
 
 abbrev pub passed : State → (ℕ → Phase) → (ℕ → ℕ) → State
-passed s ph lo = record { ph = ph; nx = s .nx; tl = s .tl; at = s .at; lo = lo; hi = s .hi }
+passed s phases head-turn =
+    record {
+      phases = phases;
+      nexts = s .nexts;
+      tails = s .tails;
+      node-at = s .node-at;
+      head-turn = head-turn;
+      next-turn = s .next-turn;
+    }
 
-pub record Passes (T : Tree) (s : State) (p r h i : ℕ) (ph : ℕ → Phase) (lo : ℕ → ℕ) : Type 0 where
-  pub giver : level (T .top p) (ph p) ≡ suc i
-  pub calm : Calm (ph p)
-  pub in-range : InRange (T .top p) (ph p)
-  pub taker : ph r ≡ hold h
-  pub others : (q : ℕ) → q ≢ p → q ≢ r → ph q ≡ s .ph q
-  pub gone : lo (T .elem p i) ≡ suc (s .lo (T .elem p i))
-  pub stay : (k : ℕ) → k ≢ T .elem p i → lo k ≡ s .lo k
+pub record Passes (T : Tree) (s : State) (p r h i : ℕ) (phases : ℕ → Phase) (head-turn : ℕ → ℕ) : Type 0 where
+  pub giver : level (T .top p) (phases p) ≡ suc i
+  pub calm : Calm (phases p)
+  pub in-range : InRange (T .top p) (phases p)
+  pub taker : phases r ≡ hold h
+  pub others : (q : ℕ) → q ≢ p → q ≢ r → phases q ≡ s .phases q
+  pub head-gone : head-turn (T .elem p i) ≡ suc (s .head-turn (T .elem p i))
+  pub stay : (k : ℕ) → k ≢ T .elem p i → head-turn k ≡ s .head-turn k
 
-module _ (T : Tree) (G : Lawful T) (s : State) (v : Inv T s) (p h i t : ℕ) (e : s .ph p ≡ give h i t)
-    (n : Successor T s p i t) (ph : ℕ → Phase) (lo : ℕ → ℕ) (c : Passes T s p (n .rank) h i ph lo) where
+module _ (T : Tree) (G : Lawful T) (s : State) (v : Inv T s) (p h i t : ℕ) (e : s .phases p ≡ give h i t)
+    (n : Successor T s p i t) (phases : ℕ → Phase) (head-turn : ℕ → ℕ)
+    (c : Passes T s p (n .rank) h i phases head-turn) where
   abbrev r : ℕ
   r = n .rank
 
   abbrev s′ : State
-  s′ = passed s ph lo
+  s′ = passed s phases head-turn
 
   rg : (1 ≤ h) × (h ≤ i) × (i ≤ T .top p)
-  rg = range-of (s .ph p) (T .top p) (v .range p) (give h i t) e
+  rg = range-of (s .phases p) (T .top p) (v .range p) (give h i t) e
 
   on-p : On (T .top p) i
   on-p = omega (arith, rg)
 
-  level-p : level (T .top p) (s .ph p) ≡ h
+  level-p : level (T .top p) (s .phases p) ≡ h
   level-p = ap (level (T .top p)) e
 
-  level-r : level (T .top r) (s .ph r) ≡ suc i
+  level-r : level (T .top r) (s .phases r) ≡ suc i
   level-r = ap (level (T .top r)) (n .waits)
 
-  level-r′ : level (T .top r) (ph r) ≡ h
+  level-r′ : level (T .top r) (phases r) ≡ h
   level-r′ = ap (level (T .top r)) (c .taker)
 
-  level-o : (q : ℕ) → q ≢ p → q ≢ r → level (T .top q) (ph q) ≡ level (T .top q) (s .ph q)
+  level-o : (q : ℕ) → q ≢ p → q ≢ r → level (T .top q) (phases q) ≡ level (T .top q) (s .phases q)
   level-o q a b = ap (level (T .top q)) (c .others q a b)
 
   -- an element of another level is another element
   differs : (q j : ℕ) → On (T .top q) j → j ≢ i → T .elem q j ≢ T .elem p i
   differs q j on ne eq = ne (G .level-of q p j i on on-p eq)
 
-  lo-less : (k : ℕ) → s .lo k ≤ lo k
-  lo-less = split (T .elem p i) (λ k. s .lo k ≤ lo k) (omega (arith, c .gone)) (λ k ne. omega (arith, c .stay k ne))
+  head-grows : (k : ℕ) → s .head-turn k ≤ head-turn k
+  head-grows = split (T .elem p i)
+      (λ k. s .head-turn k ≤ head-turn k)
+      (omega (arith, c .head-gone))
+      (λ k ne. omega (arith, c .stay k ne))
 
-  range′ : (q : ℕ) → InRange (T .top q) (ph q)
+  range′ : (q : ℕ) → InRange (T .top q) (phases q)
   range′ = split₂ p r
-      (λ q. InRange (T .top q) (ph q))
+      (λ q. InRange (T .top q) (phases q))
       (c .in-range)
       (rw (c .taker) (omega (arith, rg, n .on)))
       (λ q a b. rw (c .others q a b) (v .range q))
 
-  order′ : (k : ℕ) → lo k ≤ s .hi k
+  order′ : (k : ℕ) → head-turn k ≤ s .next-turn k
   order′ = split (T .elem p i)
-      (λ k. lo k ≤ s .hi k)
-      (omega (arith, c .gone, n .more))
+      (λ k. head-turn k ≤ s .next-turn k)
+      (omega (arith, c .head-gone, n .more))
       (λ k ne. omega (arith, c .stay k ne, v .order k))
 
-  once′ : (k a b : ℕ) → lo k ≤ a → a < s .hi k → lo k ≤ b → b < s .hi k → s .at k a ≡ s .at k b → a ≡ b
-  once′ k a b l l′ m m′ q = v .once k a b (omega (arith, lo-less k)) l′ (omega (arith, lo-less k)) m′ q
+  once′ : (k a b : ℕ) → head-turn k ≤ a → a < s .next-turn k → head-turn k ≤ b → b < s .next-turn k
+      → s .node-at k a ≡ s .node-at k b → a ≡ b
+  once′ k a b l l′ m m′ q = v .once k a b (omega (arith, head-grows k)) l′ (omega (arith, head-grows k)) m′ q
 
-  empty′ : (k : ℕ) → lo k ≡ s .hi k → s .tl k ≡ 0
+  empty′ : (k : ℕ) → head-turn k ≡ s .next-turn k → s .tails k ≡ 0
   empty′ = split (T .elem p i)
-      (λ k. lo k ≡ s .hi k → s .tl k ≡ 0)
-      (λ z. absurd (omega (arith, c .gone, n .more)))
+      (λ k. head-turn k ≡ s .next-turn k → s .tails k ≡ 0)
+      (λ z. absurd (omega (arith, c .head-gone, n .more)))
       (λ k ne z. v .empty k (omega (arith, c .stay k ne)))
 
   -- a holder in another queue keeps its head
@@ -82,7 +95,7 @@ module _ (T : Tree) (G : Lawful T) (s : State) (v : Inv T s) (p h i t : ℕ) (e 
   kept q j ne o =
       record { some = omega (arith, c .stay (T .elem q j) ne, o .some); is = rw (c .stay (T .elem q j) ne) (o .is) }
 
-  heads-p : (j : ℕ) → On (T .top p) j → level (T .top p) (ph p) ≤ j → Heads T s′ p j
+  heads-p : (j : ℕ) → On (T .top p) j → level (T .top p) (phases p) ≤ j → Heads T s′ p j
   heads-p j on l =
       kept p j (differs p j on (omega (arith, c .giver))) (v .heads p j on (omega (arith, c .giver, level-p, rg)))
 
@@ -97,7 +110,7 @@ module _ (T : Tree) (G : Lawful T) (s : State) (v : Inv T s) (p h i t : ℕ) (e 
       )
 
   heads-here : Heads T s′ r i
-  heads-here = record { some = rw (n .queue, c .gone) (n .more); is = rw (n .queue, c .gone) (n .is) }
+  heads-here = record { some = rw (n .queue, c .head-gone) (n .more); is = rw (n .queue, c .head-gone) (n .is) }
 
   heads-up : (j : ℕ) → 1 ≤ j → h ≤ j → j < i → Heads T s r j
   heads-up j on l m =
@@ -105,7 +118,7 @@ module _ (T : Tree) (G : Lawful T) (s : State) (v : Inv T s) (p h i t : ℕ) (e 
       let hd : Heads T s p j = v .heads p j (omega (arith, on-p)) (omega (arith, level-p)) in
       record { some = rw (sh .0) (hd .some); is = rw (sh .0, sh .1) (hd .is) }
 
-  heads-r : (j : ℕ) → On (T .top r) j → level (T .top r) (ph r) ≤ j → Heads T s′ r j
+  heads-r : (j : ℕ) → On (T .top r) j → level (T .top r) (phases r) ≤ j → Heads T s′ r j
   heads-r j on l = by (cases-order j i)
     where
       by : (j ≡ i) ⊎ ((j < i) ⊎ (i < j)) → Heads T s′ r j
@@ -113,9 +126,9 @@ module _ (T : Tree) (G : Lawful T) (s : State) (v : Inv T s) (p h i t : ℕ) (e 
       by (inr (inl z)) = kept r j (differs r j on (omega arith)) (heads-up j (on .from) (omega (arith, level-r′)) z)
       by (inr (inr z)) = kept r j (differs r j on (omega arith)) (v .heads r j on (omega (arith, level-r)))
 
-  heads-o : (q : ℕ) → q ≢ p → q ≢ r → (j : ℕ) → On (T .top q) j → level (T .top q) (ph q) ≤ j → Heads T s′ q j
+  heads-o : (q : ℕ) → q ≢ p → q ≢ r → (j : ℕ) → On (T .top q) j → level (T .top q) (phases q) ≤ j → Heads T s′ q j
   heads-o q a b j on l =
-      let l′ : level (T .top q) (s .ph q) ≤ j = omega (arith, level-o q a b) in
+      let l′ : level (T .top q) (s .phases q) ≤ j = omega (arith, level-o q a b) in
       kept q j
       (λ w.
       let z : j ≡ i = G .level-of q p j i on on-p w in
@@ -124,29 +137,30 @@ module _ (T : Tree) (G : Lawful T) (s : State) (v : Inv T s) (p h i t : ℕ) (e 
       (w ∙ ap (T .elem p) (sym z))))
       (v .heads q j on l′)
 
-  heads′ : (q j : ℕ) → On (T .top q) j → level (T .top q) (ph q) ≤ j → Heads T s′ q j
+  heads′ : (q j : ℕ) → On (T .top q) j → level (T .top q) (phases q) ≤ j → Heads T s′ q j
   heads′ = split₂ p r
-      (λ q. (j : ℕ) → On (T .top q) j → level (T .top q) (ph q) ≤ j → Heads T s′ q j)
+      (λ q. (j : ℕ) → On (T .top q) j → level (T .top q) (phases q) ≤ j → Heads T s′ q j)
       heads-p
       heads-r
       heads-o
 
   -- the turn of a rank that waits on: it is not the taker's
-  behind : (q j : ℕ) → q ≢ r → Waits (s .ph q) j → Behind T s q j → Behind T s′ q j
+  behind : (q j : ℕ) → q ≢ r → Waits (s .phases q) j → Behind T s q j → Behind T s′ q j
   behind q j ne w b =
       record { turn = b .turn; low = low (cases-eq (T .elem q j) (T .elem p i)); high = b .high; is = b .is }
     where
-      clash : T .elem q j ≡ T .elem p i → b .turn ≢ s .lo (T .elem p i)
+      clash : T .elem q j ≡ T .elem p i → b .turn ≢ s .head-turn (T .elem p i)
       clash z y = ne
           (one-owner T G s v q r j i (waits-on T G s v q j w) (n .on) (omega (arith, waits-level T G s v q j w))
           (omega (arith, level-r)) (sym (b .is) ∙ (rw (z, y) (n .is))) .0)
 
-      low : (T .elem q j ≡ T .elem p i) ⊎ (T .elem q j ≡ T .elem p i → ⊥) → lo (T .elem q j) ≤ b .turn
+      low : (T .elem q j ≡ T .elem p i) ⊎ (T .elem q j ≡ T .elem p i → ⊥) → head-turn (T .elem q j) ≤ b .turn
       low (inl z) =
-          let l : s .lo (T .elem p i) ≤ b .turn = rw z at (b .low) in rw (z, c .gone) (omega (arith, clash z))
+          let l : s .head-turn (T .elem p i) ≤ b .turn = rw z at (b .low) in
+          rw (z, c .head-gone) (omega (arith, clash z))
       low (inr z) = rw (c .stay (T .elem q j) z) (b .low)
 
-  asks-o : (q : ℕ) → q ≢ r → (f : Phase) → s .ph q ≡ f → Asks T s q f → Asks T s′ q f
+  asks-o : (q : ℕ) → q ≢ r → (f : Phase) → s .phases q ≡ f → Asks T s q f → Asks T s′ q f
   unfolding behind
   asks-o q b out w o = tt
   asks-o q b (fresh j) w o = tt
@@ -163,19 +177,19 @@ module _ (T : Tree) (G : Lawful T) (s : State) (v : Inv T s) (p h i t : ℕ) (e 
   asks-o q b (hold j) w o = tt
   asks-o q b (give g j u) w o = o
 
-  asks′ : (q : ℕ) → Asks T s′ q (ph q)
+  asks′ : (q : ℕ) → Asks T s′ q (phases q)
   asks′ = split₂ p r
-      (λ q. Asks T s′ q (ph q))
-      (calm-asks T s′ p (ph p) (c .calm))
+      (λ q. Asks T s′ q (phases q))
+      (calm-asks T s′ p (phases p) (c .calm))
       (rw (c .taker) tt)
-      (λ q a b. rw (c .others q a b) (asks-o q b (s .ph q) refl (v .asks q)))
+      (λ q a b. rw (c .others q a b) (asks-o q b (s .phases q) refl (v .asks q)))
 
   -- who holds an element other than the one handed over
   holder-o : (k : ℕ) → k ≢ T .elem p i → Holder T s k → Holder T s′ k
   holder-o k ne o = split₂ p r
       (λ q.
-      (j : ℕ) → On (T .top q) j → T .elem q j ≡ k → s .at k (s .lo k) ≡ T .node q j
-      → level (T .top q) (s .ph q) ≤ j → Holder T s′ k)
+      (j : ℕ) → On (T .top q) j → T .elem q j ≡ k → s .node-at k (s .head-turn k) ≡ T .node q j
+      → level (T .top q) (s .phases q) ≤ j → Holder T s′ k)
       from-p
       from-r
       from-o
@@ -186,11 +200,11 @@ module _ (T : Tree) (G : Lawful T) (s : State) (v : Inv T s) (p h i t : ℕ) (e 
       (o .is)
       (o .holds)
     where
-      lo-k : lo k ≡ s .lo k
-      lo-k = c .stay k ne
+      head-k : head-turn k ≡ s .head-turn k
+      head-k = c .stay k ne
 
-      from-p : (j : ℕ) → On (T .top p) j → T .elem p j ≡ k → s .at k (s .lo k) ≡ T .node p j
-          → level (T .top p) (s .ph p) ≤ j → Holder T s′ k
+      from-p : (j : ℕ) → On (T .top p) j → T .elem p j ≡ k → s .node-at k (s .head-turn k) ≡ T .node p j
+          → level (T .top p) (s .phases p) ≤ j → Holder T s′ k
       from-p j on q is l = by (cases-order j i)
         where
           by : (j ≡ i) ⊎ ((j < i) ⊎ (i < j)) → Holder T s′ k
@@ -202,44 +216,44 @@ module _ (T : Tree) (G : Lawful T) (s : State) (v : Inv T s) (p h i t : ℕ) (e 
                 lvl = j;
                 on = omega (arith, n .on);
                 queue = sh .0 ∙ q;
-                is = rw lo-k (is ∙ sym (sh .1));
+                is = rw head-k (is ∙ sym (sh .1));
                 holds = omega (arith, level-r′, level-p);
               }
           by (inr (inr z)) =
-              record { rank = p; lvl = j; on = on; queue = q; is = rw lo-k is; holds = omega (arith, c .giver) }
+              record { rank = p; lvl = j; on = on; queue = q; is = rw head-k is; holds = omega (arith, c .giver) }
 
-      from-r : (j : ℕ) → On (T .top r) j → T .elem r j ≡ k → s .at k (s .lo k) ≡ T .node r j
-          → level (T .top r) (s .ph r) ≤ j → Holder T s′ k
+      from-r : (j : ℕ) → On (T .top r) j → T .elem r j ≡ k → s .node-at k (s .head-turn k) ≡ T .node r j
+          → level (T .top r) (s .phases r) ≤ j → Holder T s′ k
       from-r j on q is l =
           record {
             rank = r;
             lvl = j;
             on = on;
             queue = q;
-            is = rw lo-k is;
+            is = rw head-k is;
             holds = omega (arith, level-r, level-r′, rg);
           }
 
-      from-o : (x : ℕ) → x ≢ p → x ≢ r → (j : ℕ) → On (T .top x) j → T .elem x j ≡ k → s .at k (s .lo k) ≡ T .node x j
-          → level (T .top x) (s .ph x) ≤ j → Holder T s′ k
+      from-o : (x : ℕ) → x ≢ p → x ≢ r → (j : ℕ) → On (T .top x) j → T .elem x j ≡ k
+          → s .node-at k (s .head-turn k) ≡ T .node x j → level (T .top x) (s .phases x) ≤ j → Holder T s′ k
       from-o x a b j on q is l =
-          record { rank = x; lvl = j; on = on; queue = q; is = rw lo-k is; holds = omega (arith, level-o x a b) }
+          record { rank = x; lvl = j; on = on; queue = q; is = rw head-k is; holds = omega (arith, level-o x a b) }
 
-  holder′ : (k : ℕ) → lo k < s .hi k → Holder T s′ k
+  holder′ : (k : ℕ) → head-turn k < s .next-turn k → Holder T s′ k
   holder′ = split (T .elem p i)
-      (λ k. lo k < s .hi k → Holder T s′ k)
+      (λ k. head-turn k < s .next-turn k → Holder T s′ k)
       (λ _.
       record {
         rank = r;
         lvl = i;
         on = n .on;
         queue = n .queue;
-        is = rw (c .gone) (n .is);
+        is = rw (c .head-gone) (n .is);
         holds = omega (arith, level-r′, rg);
       })
       (λ k ne l. holder-o k ne (v .holder k (omega (arith, c .stay k ne))))
 
-  member-of : (k a : ℕ) → lo k ≤ a → suc a < s .hi k → Member T s k (suc a) → Member T s′ k (suc a)
+  member-of : (k a : ℕ) → head-turn k ≤ a → suc a < s .next-turn k → Member T s k (suc a) → Member T s′ k (suc a)
   member-of k a l l′ m =
       record {
         rank = m .rank;
@@ -248,7 +262,7 @@ module _ (T : Tree) (G : Lawful T) (s : State) (v : Inv T s) (p h i t : ℕ) (e 
         queue = m .queue;
         is = m .is;
         waits = split₂ p r
-            (λ q. q ≡ m .rank → Waits (ph q) (m .lvl))
+            (λ q. q ≡ m .rank → Waits (phases q) (m .lvl))
             at-p
             at-r
             (λ q x y z. rw (c .others q x y, z) (m .waits))
@@ -256,24 +270,25 @@ module _ (T : Tree) (G : Lawful T) (s : State) (v : Inv T s) (p h i t : ℕ) (e 
             refl;
       }
     where
-      at-p : p ≡ m .rank → Waits (ph p) (m .lvl)
-      at-p z = absurd (subst (λ f. Waits f (m .lvl)) (ap (s .ph) (sym z) ∙ e) (m .waits))
+      at-p : p ≡ m .rank → Waits (phases p) (m .lvl)
+      at-p z = absurd (subst (λ f. Waits f (m .lvl)) (ap (s .phases) (sym z) ∙ e) (m .waits))
 
-      at-r : r ≡ m .rank → Waits (ph r) (m .lvl)
+      at-r : r ≡ m .rank → Waits (phases r) (m .lvl)
       at-r z =
-          let lv : i ≡ m .lvl = subst (λ f. Waits f (m .lvl)) (ap (s .ph) (sym z) ∙ n .waits) (m .waits) in
+          let lv : i ≡ m .lvl = subst (λ f. Waits f (m .lvl)) (ap (s .phases) (sym z) ∙ n .waits) (m .waits) in
           let same : T .elem p i ≡ k =
           sym (n .queue) ∙ (ap (λ x. T .elem x i) z ∙ (ap (T .elem (m .rank)) lv ∙ m .queue)) in
-          let gone : lo k ≡ suc (s .lo k) = subst (λ x. lo x ≡ suc (s .lo x)) same (c .gone) in
-          let first : s .at k (suc (s .lo k)) ≡ T .node r i =
-          subst (λ x. s .at x (suc (s .lo x)) ≡ T .node r i) same (n .is) in
-          let q : suc a ≡ suc (s .lo k) =
-          v .once k (suc a) (suc (s .lo k)) (omega arith) l′ (omega arith) (omega arith)
+          let gone : head-turn k ≡ suc (s .head-turn k) =
+          subst (λ x. head-turn x ≡ suc (s .head-turn x)) same (c .head-gone) in
+          let first : s .node-at k (suc (s .head-turn k)) ≡ T .node r i =
+          subst (λ x. s .node-at x (suc (s .head-turn x)) ≡ T .node r i) same (n .is) in
+          let q : suc a ≡ suc (s .head-turn k) =
+          v .once k (suc a) (suc (s .head-turn k)) (omega arith) l′ (omega arith) (omega arith)
           (m .is ∙ (ap (λ x. T .node x (m .lvl)) (sym z) ∙ (ap (T .node r) (sym lv) ∙ sym first))) in
           absurd (omega arith)
 
-  member′ : (k a : ℕ) → lo k ≤ a → suc a < s .hi k → Member T s′ k (suc a)
-  member′ k a l l′ = member-of k a l l′ (v .member k a (omega (arith, lo-less k)) l′)
+  member′ : (k a : ℕ) → head-turn k ≤ a → suc a < s .next-turn k → Member T s′ k (suc a)
+  member′ k a l l′ = member-of k a l l′ (v .member k a (omega (arith, head-grows k)) l′)
 
   pub handed : Inv T s′
   handed =
@@ -282,8 +297,8 @@ module _ (T : Tree) (G : Lawful T) (s : State) (v : Inv T s) (p h i t : ℕ) (e 
         order = order′;
         once = once′;
         empty = empty′;
-        tail = λ k a l z. v .tail k a (omega (arith, lo-less k)) z;
-        ends = λ k a l z. v .ends k a (omega (arith, lo-less k)) z;
+        tail = λ k a l z. v .tail k a (omega (arith, head-grows k)) z;
+        ends = λ k a l z. v .ends k a (omega (arith, head-grows k)) z;
         heads = heads′;
         holder = holder′;
         member = member′;

@@ -67,19 +67,19 @@ unfolding upd
 row-other L s p f q a = grind (arith, tells)
 
 accepts : (L : Plan) (s : Lock) (p : ℕ) (f : Place) → ((q j : ℕ) → L .cap q j ≤ 1000)
-    → InRange (L .tree .top p) (phaseOf f (s .st (L .tree .node p (at-level f)))) → Sound L (s .st) p f
+    → InRange (L .tree .top p) (phaseOf f (s .statuses (L .tree .node p (at-level f)))) → Sound L (s .statuses) p f
     → Within (L .counters) f → Aims (L .tree) f → Busy f → Accepts L s p f
 accepts L s p f c r so w a b = grind (arith, tells)
 
 -- what stands in t is the node of a rank
-link-aims : (T : Tree) → Lawful T → (s : State) → Inv T s → (p i t : ℕ) → s .ph p ≡ link i t → Node T t
+link-aims : (T : Tree) → Lawful T → (s : State) → Inv T s → (p i t : ℕ) → s .phases p ≡ link i t → Node T t
 link-aims T G s v p i t e =
     let l : Linking T s p i t = asked T s v p (link i t) e in
     let o : Occupant T s (T .elem p i) (l .spot .turn) =
     occupant T G s v (T .elem p i) (l .spot .turn) (l .spot .low) (omega (arith, l .spot .high)) in
     record { rank = o .rank; lvl = o .lvl; on = o .on; is = l .target ∙ o .is }
 
-give-aims : (T : Tree) → Lawful T → (s : State) → Inv T s → (p h i t : ℕ) → s .ph p ≡ give h i t → Node T t
+give-aims : (T : Tree) → Lawful T → (s : State) → Inv T s → (p h i t : ℕ) → s .phases p ≡ give h i t → Node T t
 give-aims T G s v p h i t e =
     let n : Successor T s p i t = successor T G s v p h i t e in
     record { rank = n .rank; lvl = i; on = n .on; is = n .target }
@@ -94,7 +94,7 @@ Targets T (wait i) = Unit {0}
 Targets T (hold h) = Unit {0}
 Targets T (give h i t) = Node T t
 
-targets : (T : Tree) → Lawful T → (s : State) → Inv T s → (p : ℕ) (f : Phase) → s .ph p ≡ f → Targets T f
+targets : (T : Tree) → Lawful T → (s : State) → Inv T s → (p : ℕ) (f : Phase) → s .phases p ≡ f → Targets T f
 targets T G s v p out e = tt
 targets T G s v p (fresh i) e = tt
 targets T G s v p (clean i) e = tt
@@ -155,7 +155,7 @@ module _ (P : ℕ) (L : Plan) (g : Apt P L) where
   accept s v p on b =
       let q = v .safe .fine .queues in
       let a : Aims T (s .place p) =
-      aims T (s .place p) (s .st (T .node p (at-level (s .place p))))
+      aims T (s .place p) (s .statuses (T .node p (at-level (s .place p))))
       (targets T (g .sensible .tree) (view T s) q p (phase T s p) refl) in (
         on,
         accepts L s p (s .place p) (g .sensible .small) (q .range p) (v .safe .fine .sound p) (v .safe .within p) a b,

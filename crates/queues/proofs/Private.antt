@@ -12,47 +12,55 @@ use Rattle.queues.proofs.Base.{range-of, one-owner, apart}
 use Rattle.queues.proofs.Split.{split}
 
 abbrev pub prepared : State → (ℕ → Phase) → (ℕ → ℕ) → State
-prepared s ph nx = record { ph = ph; nx = nx; tl = s .tl; at = s .at; lo = s .lo; hi = s .hi }
+prepared s phases nexts =
+    record {
+      phases = phases;
+      nexts = nexts;
+      tails = s .tails;
+      node-at = s .node-at;
+      head-turn = s .head-turn;
+      next-turn = s .next-turn;
+    }
 
 -- the node that p is preparing
 pub record Mine (T : Tree) (s : State) (p y : ℕ) : Type 0 where
   pub lvl : ℕ
   pub on : On (T .top p) lvl
-  pub near : level (T .top p) (s .ph p) ≡ suc lvl
+  pub near : level (T .top p) (s .phases p) ≡ suc lvl
   pub is : y ≡ T .node p lvl
 
-pub record Prepares (T : Tree) (s : State) (p : ℕ) (ph : ℕ → Phase) (nx : ℕ → ℕ) : Type 0 where
-  pub levels : level (T .top p) (ph p) ≡ level (T .top p) (s .ph p)
-  pub in-range : InRange (T .top p) (ph p)
-  pub idle : (j : ℕ) → Waits (s .ph p) j → ⊥
-  pub others : (q : ℕ) → q ≢ p → ph q ≡ s .ph q
-  pub words : (y : ℕ) → (nx y ≡ s .nx y) ⊎ Mine T s p y
-  pub says : Asks T (prepared s ph nx) p (ph p)
+pub record Prepares (T : Tree) (s : State) (p : ℕ) (phases : ℕ → Phase) (nexts : ℕ → ℕ) : Type 0 where
+  pub levels : level (T .top p) (phases p) ≡ level (T .top p) (s .phases p)
+  pub in-range : InRange (T .top p) (phases p)
+  pub idle : (j : ℕ) → Waits (s .phases p) j → ⊥
+  pub others : (q : ℕ) → q ≢ p → phases q ≡ s .phases q
+  pub words : (y : ℕ) → (nexts y ≡ s .nexts y) ⊎ Mine T s p y
+  pub says : Asks T (prepared s phases nexts) p (phases p)
 
-module _ (T : Tree) (G : Lawful T) (s : State) (v : Inv T s) (p : ℕ) (ph : ℕ → Phase) (nx : ℕ → ℕ)
-    (c : Prepares T s p ph nx) where
+module _ (T : Tree) (G : Lawful T) (s : State) (v : Inv T s) (p : ℕ) (phases : ℕ → Phase) (nexts : ℕ → ℕ)
+    (c : Prepares T s p phases nexts) where
   abbrev s′ : State
-  s′ = prepared s ph nx
+  s′ = prepared s phases nexts
 
-  levels′ : (q : ℕ) → level (T .top q) (ph q) ≡ level (T .top q) (s .ph q)
+  levels′ : (q : ℕ) → level (T .top q) (phases q) ≡ level (T .top q) (s .phases q)
   levels′ = split p
-      (λ q. level (T .top q) (ph q) ≡ level (T .top q) (s .ph q))
+      (λ q. level (T .top q) (phases q) ≡ level (T .top q) (s .phases q))
       (c .levels)
       (λ q a. ap (level (T .top q)) (c .others q a))
 
   -- no queued node is written
-  queued : (k a : ℕ) → s .lo k ≤ a → a < s .hi k → nx (s .at k a) ≡ s .nx (s .at k a)
+  queued : (k a : ℕ) → s .head-turn k ≤ a → a < s .next-turn k → nexts (s .node-at k a) ≡ s .nexts (s .node-at k a)
   queued k a l l′ = ⊎-elim
-      (λ (z : nx (s .at k a) ≡ s .nx (s .at k a)). z)
-      (λ (m : Mine T s p (s .at k a)).
+      (λ (z : nexts (s .node-at k a) ≡ s .nexts (s .node-at k a)). z)
+      (λ (m : Mine T s p (s .node-at k a)).
       absurd (apart T G s v p (m .lvl) (m .on) (m .near) (c .idle (m .lvl)) k a l l′ (m .is)))
-      (c .words (s .at k a))
+      (c .words (s .node-at k a))
 
   -- no node of another rank is written
-  foreign : (q j : ℕ) → q ≢ p → On (T .top q) j → level (T .top q) (s .ph q) ≤ suc j
-      → nx (T .node q j) ≡ s .nx (T .node q j)
+  foreign : (q j : ℕ) → q ≢ p → On (T .top q) j → level (T .top q) (s .phases q) ≤ suc j
+      → nexts (T .node q j) ≡ s .nexts (T .node q j)
   foreign q j ne on l = ⊎-elim
-      (λ (z : nx (T .node q j) ≡ s .nx (T .node q j)). z)
+      (λ (z : nexts (T .node q j) ≡ s .nexts (T .node q j)). z)
       (λ (m : Mine T s p (T .node q j)).
       absurd (ne (one-owner T G s v q p j (m .lvl) on (m .on) l (omega (arith, m .near)) (m .is) .0)))
       (c .words (T .node q j))
@@ -60,7 +68,7 @@ module _ (T : Tree) (G : Lawful T) (s : State) (v : Inv T s) (p : ℕ) (ph : ℕ
   behind : (q j : ℕ) → Behind T s q j → Behind T s′ q j
   behind q j b = record { turn = b .turn; low = b .low; high = b .high; is = b .is }
 
-  asks-o : (q : ℕ) → q ≢ p → (f : Phase) → s .ph q ≡ f → InRange (T .top q) f → Asks T s q f → Asks T s′ q f
+  asks-o : (q : ℕ) → q ≢ p → (f : Phase) → s .phases q ≡ f → InRange (T .top q) f → Asks T s q f → Asks T s′ q f
   unfolding behind
   asks-o q a out w g o = tt
   asks-o q a (fresh j) w g o = tt
@@ -84,7 +92,7 @@ module _ (T : Tree) (G : Lawful T) (s : State) (v : Inv T s) (p : ℕ) (ph : ℕ
   pub kept-by : Inv T s′
   kept-by =
       record {
-        range = split p (λ q. InRange (T .top q) (ph q)) (c .in-range) (λ q a. rw (c .others q a) (v .range q));
+        range = split p (λ q. InRange (T .top q) (phases q)) (c .in-range) (λ q a. rw (c .others q a) (v .range q));
         order = v .order;
         once = v .once;
         empty = v .empty;
@@ -111,14 +119,14 @@ module _ (T : Tree) (G : Lawful T) (s : State) (v : Inv T s) (p : ℕ) (ph : ℕ
               queue = m .queue;
               is = m .is;
               waits = split p
-                  (λ q. Waits (s .ph q) (m .lvl) → Waits (ph q) (m .lvl))
+                  (λ q. Waits (s .phases q) (m .lvl) → Waits (phases q) (m .lvl))
                   (λ w. absurd (c .idle (m .lvl) w))
                   (λ q x w. rw (c .others q x) w)
                   (m .rank)
                   (m .waits);
             };
         asks = split p
-            (λ q. Asks T s′ q (ph q))
+            (λ q. Asks T s′ q (phases q))
             (c .says)
-            (λ q a. rw (c .others q a) (asks-o q a (s .ph q) refl (v .range q) (v .asks q)));
+            (λ q a. rw (c .others q a) (asks-o q a (s .phases q) refl (v .range q) (v .asks q)));
       }

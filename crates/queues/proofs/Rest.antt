@@ -13,7 +13,7 @@ use Rattle.queues.specs.Counters.{total, tries, clears, Marks, shut, none}
 use Rattle.queues.specs.Counters
 use Rattle.queues.specs.Rows.{Place, idle, W1, W2, W3, W4, W5, W6, W7, W8, W9, U1, U2, U3, U4, U5, U6, U7, U8, U9}
 use Rattle.queues.specs.Rows.{U10, R1, R2, R3, R4, R5, R6, R7, writes, reads, Plan, Lock, upd, phaseOf, at-level}
-use Rattle.queues.specs.Rows.{phase, view, go, put-ar, put-de, row}
+use Rattle.queues.specs.Rows.{phase, view, go, put-arrive, put-depart, row}
 use Rattle.queues.specs.Whole.{loadOf, gate, Within, Safe}
 use Rattle.queues.specs.Claim.{Jobs}
 use Rattle.queues.specs.Way.{tag, Move, Plays, play, AtRest, Apt, WayBack}
@@ -47,9 +47,9 @@ still-idle f h z = grind (arith, tells)
 
 -- what is true where every rank is idle or at R3
 pub record Calm (L : Plan) (s : Lock) : Type 0 where
-  pub tails : (k : ℕ) → s .tl k ≡ 0
-  pub counts : (c : ℕ) → c < L .counters → s .ar c ≡ s .de c
-  pub small : (c : ℕ) → c < L .counters → s .de c ≤ L .TR
+  pub tails : (k : ℕ) → s .tails k ≡ 0
+  pub counts : (c : ℕ) → c < L .counters → s .arrives c ≡ s .departs c
+  pub small : (c : ℕ) → c < L .counters → s .departs c ≤ L .TR
 
 module _ (P : ℕ) (L : Plan) (g : Apt P L) where
   abbrev T : Tree
@@ -69,7 +69,7 @@ module _ (P : ℕ) (L : Plan) (g : Apt P L) where
       (λ (z : gate T s q ≡ shut). subst (λ x. Marks x c) z m)
       (λ (z : (level (T .top q) (phase T s q) ≡ 1) × On (T .top q) 1).
       absurd (omega (arith, still-phase s v q (z .1))))
-      (gate-phase (T .top q) (s .place q) (s .st (T .node q (at-level (s .place q))))
+      (gate-phase (T .top q) (s .place q) (s .statuses (T .node q (at-level (s .place q))))
       (v .0 .safe .fine .queues .range q))
 
   pub calm : (s : Lock) → Resting s → Calm L s
@@ -78,11 +78,11 @@ module _ (P : ℕ) (L : Plan) (g : Apt P L) where
         tails = λ k.
             inv .empty k
             (⊎-elim
-            (λ (z : s .lo k < s .hi k).
+            (λ (z : s .head-turn k < s .next-turn k).
             let h = inv .holder k z in
             absurd (omega (arith, h .holds, h .on, still-phase s v (h .rank) (omega (arith, h .on)))))
-            (λ (z : s .hi k ≤ s .lo k). omega (arith, inv .order k))
-            (cases-lt (s .lo k) (s .hi k)));
+            (λ (z : s .next-turn k ≤ s .head-turn k). omega (arith, inv .order k))
+            (cases-lt (s .head-turn k) (s .next-turn k)));
         counts = λ c l. sums c l .0;
         small = λ c l. sums c l .1;
       }
@@ -90,7 +90,7 @@ module _ (P : ℕ) (L : Plan) (g : Apt P L) where
       inv : Inv T (view T s)
       inv = v .0 .safe .fine .queues
 
-      sums : (c : ℕ) → c < L .counters → (s .ar c ≡ s .de c) × (s .de c ≤ L .TR)
+      sums : (c : ℕ) → c < L .counters → (s .arrives c ≡ s .departs c) × (s .departs c ≤ L .TR)
       sums c l =
           let o = v .0 .safe .counted .each c l in
           let n : (q : ℕ) → On P q → loadOf (L .home q) (s .place q) ≡ none =
@@ -121,9 +121,9 @@ module _ (P : ℕ) (L : Plan) (g : Apt P L) where
 
   -- R3, R1, in, R7
   in-and-out : (s₀ s : Lock) → Good P L s → (p : ℕ) → On P p → ((q : ℕ) → q ≢ p → s .place q ≡ s₀ .place q)
-      → s .place p ≡ R3 → s .ar (L .home p) < L .TR → Reach P L (Home s₀ p) s
+      → s .place p ≡ R3 → s .arrives (L .home p) < L .TR → Reach P L (Home s₀ p) s
   in-and-out s₀ s v p on h e l =
-      by-step P L g (Home s₀ p) s v p on R3 e (omega arith) (rw (lt-ltb (s .ar c) (L .TR) l) second)
+      by-step P L g (Home s₀ p) s v p on R3 e (omega arith) (rw (lt-ltb (s .arrives c) (L .TR) l) second)
     where
       c : ℕ
       c = L .home p
@@ -132,7 +132,7 @@ module _ (P : ℕ) (L : Plan) (g : Apt P L) where
       s₁ = go s p R1
 
       s₂ : Lock
-      s₂ = go (put-ar s₁ c (suc (s .ar c))) p reads
+      s₂ = go (put-arrive s₁ c (suc (s .arrives c))) p reads
 
       s₃ : Lock
       s₃ = go s₂ p R7
@@ -157,15 +157,15 @@ module _ (P : ℕ) (L : Plan) (g : Apt P L) where
 
       second : Good P L s₁ → Reach P L (Home s₀ p) s₁
       second w = by-step P L g (Home s₀ p) s₁ w p on R1 (upd-same (s .place) p R1) (omega arith)
-          (rw (lt-ltb (s .ar c) (L .TR) l) third)
+          (rw (lt-ltb (s .arrives c) (L .TR) l) third)
 
   -- R3, R4, R5, R6, and then as above
-  clear-first : (s : Lock) → Resting s → (p : ℕ) → On P p → s .place p ≡ R3 → L .TR ≤ s .ar (L .home p)
+  clear-first : (s : Lock) → Resting s → (p : ℕ) → On P p → s .place p ≡ R3 → L .TR ≤ s .arrives (L .home p)
       → Reach P L (Home s p) s
   clear-first s v p on e l = by-step P L g (Home s p) s (v .0) p on R3 e (omega arith)
       (rw (
-        le-ltb (s .ar c) (L .TR) l,
-        lt-leb (2 ^ 62) (s .ar c) (omega (arith, all .counts c hc, all .small c hc, g .less)),
+        le-ltb (s .arrives c) (L .TR) l,
+        lt-leb (2 ^ 62) (s .arrives c) (omega (arith, all .counts c hc, all .small c hc, g .less)),
       )
       second)
     where
@@ -179,7 +179,7 @@ module _ (P : ℕ) (L : Plan) (g : Apt P L) where
       all = calm s v
 
       n : ℕ
-      n = s .de c
+      n = s .departs c
 
       s₁ : Lock
       s₁ = go s p R4
@@ -188,10 +188,10 @@ module _ (P : ℕ) (L : Plan) (g : Apt P L) where
       s₂ = go s₁ p R5
 
       s₃ : Lock
-      s₃ = go (put-de s₂ c 0) p (R6 n)
+      s₃ = go (put-depart s₂ c 0) p (R6 n)
 
       s₄ : Lock
-      s₄ = go (put-ar s₃ c (s .ar c - n)) p R3
+      s₄ = go (put-arrive s₃ c (s .arrives c - n)) p R3
 
       fifth : Good P L s₄ → Reach P L (Home s p) s₄
       fifth w = in-and-out s s₄ w p on
@@ -200,7 +200,7 @@ module _ (P : ℕ) (L : Plan) (g : Apt P L) where
           ∙ (upd-other (s₂ .place) p (R6 n) q a
           ∙ (upd-other (s₁ .place) p R5 q a ∙ upd-other (s .place) p R4 q a)))
           (upd-same (s₃ .place) p R3)
-          (omega (arith, upd-same (s .ar) c (s .ar c - n), all .counts c hc, g .some))
+          (omega (arith, upd-same (s .arrives) c (s .arrives c - n), all .counts c hc, g .some))
 
       fourth : Good P L s₃ → Reach P L (Home s p) s₃
       fourth w = by-step P L g (Home s p) s₃ w p on (R6 n) (upd-same (s₂ .place) p (R6 n)) (omega arith) fifth
@@ -210,15 +210,15 @@ module _ (P : ℕ) (L : Plan) (g : Apt P L) where
 
       second : Good P L s₁ → Reach P L (Home s p) s₁
       second w = by-step P L g (Home s p) s₁ w p on R4 (upd-same (s .place) p R4) (omega arith)
-          (rw (eq-eqb (s .tl (T .elem p 1)) 0 (all .tails (T .elem p 1))) third)
+          (rw (eq-eqb (s .tails (T .elem p 1)) 0 (all .tails (T .elem p 1))) third)
 
   one-home : (s : Lock) → Resting s → (p : ℕ) → On P p → 0 < stage-3 (s .place p)
       → Reach P L (Lower P L (λ q. stage-3) Resting s) s
   one-home s v p on h = onwards P L (Home s p) (Lower P L (λ q. stage-3) Resting s) home s
       (⊎-elim
-      (λ (z : s .ar (L .home p) < L .TR). in-and-out s s (v .0) p on (λ q a. refl) e z)
-      (λ (z : L .TR ≤ s .ar (L .home p)). clear-first s v p on e z)
-      (cases-lt (s .ar (L .home p)) (L .TR)))
+      (λ (z : s .arrives (L .home p) < L .TR). in-and-out s s (v .0) p on (λ q a. refl) e z)
+      (λ (z : L .TR ≤ s .arrives (L .home p)). clear-first s v p on e z)
+      (cases-lt (s .arrives (L .home p)) (L .TR)))
     where
       e : s .place p ≡ R3
       e = waits-R3 (s .place p) h

@@ -11,82 +11,94 @@ use Rattle.queues.proofs.Base.{range-of, one-holder, one-owner, waits-level, w
 use Rattle.queues.proofs.Split.{split, calm-asks}
 
 abbrev pub freed : State → (ℕ → Phase) → (ℕ → ℕ) → (ℕ → ℕ) → State
-freed s ph tl lo = record { ph = ph; nx = s .nx; tl = tl; at = s .at; lo = lo; hi = s .hi }
+freed s phases tails head-turn =
+    record {
+      phases = phases;
+      nexts = s .nexts;
+      tails = tails;
+      node-at = s .node-at;
+      head-turn = head-turn;
+      next-turn = s .next-turn;
+    }
 
-pub record Frees (T : Tree) (s : State) (p i : ℕ) (ph : ℕ → Phase) (tl lo : ℕ → ℕ) : Type 0 where
-  pub giver : level (T .top p) (ph p) ≡ suc i
-  pub calm : Calm (ph p)
-  pub in-range : InRange (T .top p) (ph p)
-  pub others : (q : ℕ) → q ≢ p → ph q ≡ s .ph q
-  pub zero : tl (T .elem p i) ≡ 0
-  pub tails : (k : ℕ) → k ≢ T .elem p i → tl k ≡ s .tl k
-  pub gone : lo (T .elem p i) ≡ suc (s .lo (T .elem p i))
-  pub stay : (k : ℕ) → k ≢ T .elem p i → lo k ≡ s .lo k
+pub record Frees (T : Tree) (s : State) (p i : ℕ) (phases : ℕ → Phase) (tails head-turn : ℕ → ℕ) : Type 0 where
+  pub giver : level (T .top p) (phases p) ≡ suc i
+  pub calm : Calm (phases p)
+  pub in-range : InRange (T .top p) (phases p)
+  pub others : (q : ℕ) → q ≢ p → phases q ≡ s .phases q
+  pub tail-zero : tails (T .elem p i) ≡ 0
+  pub other-tails : (k : ℕ) → k ≢ T .elem p i → tails k ≡ s .tails k
+  pub head-gone : head-turn (T .elem p i) ≡ suc (s .head-turn (T .elem p i))
+  pub stay : (k : ℕ) → k ≢ T .elem p i → head-turn k ≡ s .head-turn k
 
-module _ (T : Tree) (G : Lawful T) (s : State) (v : Inv T s) (p i : ℕ) (e : s .ph p ≡ hold i)
-    (was : s .tl (T .elem p i) ≡ T .node p i) (ph : ℕ → Phase) (tl lo : ℕ → ℕ) (c : Frees T s p i ph tl lo) where
+module _ (T : Tree) (G : Lawful T) (s : State) (v : Inv T s) (p i : ℕ) (e : s .phases p ≡ hold i)
+    (was : s .tails (T .elem p i) ≡ T .node p i) (phases : ℕ → Phase) (tails head-turn : ℕ → ℕ)
+    (c : Frees T s p i phases tails head-turn) where
   abbrev s′ : State
-  s′ = freed s ph tl lo
+  s′ = freed s phases tails head-turn
 
   on-p : On (T .top p) i
-  on-p = range-of (s .ph p) (T .top p) (v .range p) (hold i) e
+  on-p = range-of (s .phases p) (T .top p) (v .range p) (hold i) e
 
-  level-p : level (T .top p) (s .ph p) ≡ i
+  level-p : level (T .top p) (s .phases p) ≡ i
   level-p = ap (level (T .top p)) e
 
-  level-o : (q : ℕ) → q ≢ p → level (T .top q) (ph q) ≡ level (T .top q) (s .ph q)
+  level-o : (q : ℕ) → q ≢ p → level (T .top q) (phases q) ≡ level (T .top q) (s .phases q)
   level-o q a = ap (level (T .top q)) (c .others q a)
 
   head-p : Heads T s p i
   head-p = v .heads p i on-p (omega (arith, level-p))
 
   -- the queue has one node
-  single : suc (s .lo (T .elem p i)) ≡ s .hi (T .elem p i)
+  single : suc (s .head-turn (T .elem p i)) ≡ s .next-turn (T .elem p i)
   single =
       let k = T .elem p i in
-      let a = pred (s .hi k) in
-      let h : s .lo k < s .hi k = head-p .some in
-      let q : a ≡ s .lo k =
-      v .once k a (s .lo k) (omega arith) (omega arith) (omega arith) h
+      let a = pred (s .next-turn k) in
+      let h : s .head-turn k < s .next-turn k = head-p .some in
+      let q : a ≡ s .head-turn k =
+      v .once k a (s .head-turn k) (omega arith) (omega arith) (omega arith) h
       (sym (v .tail k a (omega arith) (omega arith)) ∙ (was ∙ sym (head-p .is))) in
       omega arith
 
-  now-empty : lo (T .elem p i) ≡ s .hi (T .elem p i)
-  now-empty = c .gone ∙ single
+  now-empty : head-turn (T .elem p i) ≡ s .next-turn (T .elem p i)
+  now-empty = c .head-gone ∙ single
 
-  order′ : (k : ℕ) → lo k ≤ s .hi k
+  order′ : (k : ℕ) → head-turn k ≤ s .next-turn k
   order′ = split (T .elem p i)
-      (λ k. lo k ≤ s .hi k)
+      (λ k. head-turn k ≤ s .next-turn k)
       (omega (arith, now-empty))
       (λ k ne. omega (arith, c .stay k ne, v .order k))
 
-  lo-less : (k : ℕ) → s .lo k ≤ lo k
-  lo-less = split (T .elem p i) (λ k. s .lo k ≤ lo k) (omega (arith, c .gone)) (λ k ne. omega (arith, c .stay k ne))
+  head-grows : (k : ℕ) → s .head-turn k ≤ head-turn k
+  head-grows = split (T .elem p i)
+      (λ k. s .head-turn k ≤ head-turn k)
+      (omega (arith, c .head-gone))
+      (λ k ne. omega (arith, c .stay k ne))
 
-  tail′ : (k a : ℕ) → lo k ≤ a → suc a ≡ s .hi k → tl k ≡ s .at k a
+  tail′ : (k a : ℕ) → head-turn k ≤ a → suc a ≡ s .next-turn k → tails k ≡ s .node-at k a
   tail′ = split (T .elem p i)
-      (λ k. (a : ℕ) → lo k ≤ a → suc a ≡ s .hi k → tl k ≡ s .at k a)
+      (λ k. (a : ℕ) → head-turn k ≤ a → suc a ≡ s .next-turn k → tails k ≡ s .node-at k a)
       (λ a l z. absurd (omega (arith, now-empty)))
-      (λ k ne a l z. rw (c .tails k ne) (v .tail k a (omega (arith, lo-less k)) z))
+      (λ k ne a l z. rw (c .other-tails k ne) (v .tail k a (omega (arith, head-grows k)) z))
 
-  empty′ : (k : ℕ) → lo k ≡ s .hi k → tl k ≡ 0
+  empty′ : (k : ℕ) → head-turn k ≡ s .next-turn k → tails k ≡ 0
   empty′ = split (T .elem p i)
-      (λ k. lo k ≡ s .hi k → tl k ≡ 0)
-      (λ _. c .zero)
-      (λ k ne z. c .tails k ne ∙ v .empty k (omega (arith, c .stay k ne)))
+      (λ k. head-turn k ≡ s .next-turn k → tails k ≡ 0)
+      (λ _. c .tail-zero)
+      (λ k ne z. c .other-tails k ne ∙ v .empty k (omega (arith, c .stay k ne)))
 
   kept : (q j : ℕ) → T .elem q j ≢ T .elem p i → Heads T s q j → Heads T s′ q j
   kept q j ne o =
       record { some = omega (arith, c .stay (T .elem q j) ne, o .some); is = rw (c .stay (T .elem q j) ne) (o .is) }
 
-  heads-p : (j : ℕ) → On (T .top p) j → level (T .top p) (ph p) ≤ j → Heads T s′ p j
+  heads-p : (j : ℕ) → On (T .top p) j → level (T .top p) (phases p) ≤ j → Heads T s′ p j
   heads-p j on l = kept p j
       (λ z. let w : j ≡ i = G .level-of p p j i on on-p z in omega (arith, c .giver))
       (v .heads p j on (omega (arith, c .giver, level-p)))
 
-  heads-o : (q : ℕ) → q ≢ p → (j : ℕ) → On (T .top q) j → level (T .top q) (ph q) ≤ j → Heads T s′ q j
+  heads-o : (q : ℕ) → q ≢ p → (j : ℕ) → On (T .top q) j → level (T .top q) (phases q) ≤ j → Heads T s′ q j
   heads-o q a j on l =
-      let l′ : level (T .top q) (s .ph q) ≤ j = omega (arith, level-o q a) in
+      let l′ : level (T .top q) (s .phases q) ≤ j = omega (arith, level-o q a) in
       kept q j
       (λ w.
       let z : j ≡ i = G .level-of q p j i on on-p w in
@@ -99,10 +111,10 @@ module _ (T : Tree) (G : Lawful T) (s : State) (v : Inv T s) (p i : ℕ) (e : s 
   behind q j b =
       record { turn = b .turn; low = low (cases-eq (T .elem q j) (T .elem p i)); high = b .high; is = b .is }
     where
-      low : (T .elem q j ≡ T .elem p i) ⊎ (T .elem q j ≡ T .elem p i → ⊥) → lo (T .elem q j) ≤ b .turn
+      low : (T .elem q j ≡ T .elem p i) ⊎ (T .elem q j ≡ T .elem p i → ⊥) → head-turn (T .elem q j) ≤ b .turn
       low (inl z) =
-          let l : s .lo (T .elem p i) ≤ b .turn = rw z at (b .low) in
-          let m : suc (b .turn) < s .hi (T .elem p i) = rw z at (b .high) in absurd (omega (arith, single))
+          let l : s .head-turn (T .elem p i) ≤ b .turn = rw z at (b .low) in
+          let m : suc (b .turn) < s .next-turn (T .elem p i) = rw z at (b .high) in absurd (omega (arith, single))
       low (inr z) = rw (c .stay (T .elem q j) z) (b .low)
 
   asks-o : (q : ℕ) → (f : Phase) → Asks T s q f → Asks T s′ q f
@@ -119,8 +131,8 @@ module _ (T : Tree) (G : Lawful T) (s : State) (v : Inv T s) (p i : ℕ) (e : s 
   holder-o : (k : ℕ) → k ≢ T .elem p i → Holder T s k → Holder T s′ k
   holder-o k ne o = split p
       (λ q.
-      (j : ℕ) → On (T .top q) j → T .elem q j ≡ k → s .at k (s .lo k) ≡ T .node q j
-      → level (T .top q) (s .ph q) ≤ j → Holder T s′ k)
+      (j : ℕ) → On (T .top q) j → T .elem q j ≡ k → s .node-at k (s .head-turn k) ≡ T .node q j
+      → level (T .top q) (s .phases q) ≤ j → Holder T s′ k)
       from-p
       from-o
       (o .rank)
@@ -130,8 +142,8 @@ module _ (T : Tree) (G : Lawful T) (s : State) (v : Inv T s) (p i : ℕ) (e : s 
       (o .is)
       (o .holds)
     where
-      from-p : (j : ℕ) → On (T .top p) j → T .elem p j ≡ k → s .at k (s .lo k) ≡ T .node p j
-          → level (T .top p) (s .ph p) ≤ j → Holder T s′ k
+      from-p : (j : ℕ) → On (T .top p) j → T .elem p j ≡ k → s .node-at k (s .head-turn k) ≡ T .node p j
+          → level (T .top p) (s .phases p) ≤ j → Holder T s′ k
       from-p j on q is l =
           let d : j ≢ i = λ z. ne (sym q ∙ ap (T .elem p) z) in
           record {
@@ -143,8 +155,8 @@ module _ (T : Tree) (G : Lawful T) (s : State) (v : Inv T s) (p i : ℕ) (e : s 
             holds = omega (arith, c .giver, level-p);
           }
 
-      from-o : (x : ℕ) → x ≢ p → (j : ℕ) → On (T .top x) j → T .elem x j ≡ k → s .at k (s .lo k) ≡ T .node x j
-          → level (T .top x) (s .ph x) ≤ j → Holder T s′ k
+      from-o : (x : ℕ) → x ≢ p → (j : ℕ) → On (T .top x) j → T .elem x j ≡ k
+          → s .node-at k (s .head-turn k) ≡ T .node x j → level (T .top x) (s .phases x) ≤ j → Holder T s′ k
       from-o x a j on q is l =
           record {
             rank = x;
@@ -164,8 +176,8 @@ module _ (T : Tree) (G : Lawful T) (s : State) (v : Inv T s) (p i : ℕ) (e : s 
         queue = m .queue;
         is = m .is;
         waits = split p
-            (λ q. q ≡ m .rank → Waits (ph q) (m .lvl))
-            (λ z. absurd (subst (λ f. Waits f (m .lvl)) (ap (s .ph) (sym z) ∙ e) (m .waits)))
+            (λ q. q ≡ m .rank → Waits (phases q) (m .lvl))
+            (λ z. absurd (subst (λ f. Waits f (m .lvl)) (ap (s .phases) (sym z) ∙ e) (m .waits)))
             (λ q x z. rw (c .others q x, z) (m .waits))
             (m .rank)
             refl;
@@ -174,21 +186,23 @@ module _ (T : Tree) (G : Lawful T) (s : State) (v : Inv T s) (p i : ℕ) (e : s 
   pub retired : Inv T s′
   retired =
       record {
-        range = split p (λ q. InRange (T .top q) (ph q)) (c .in-range) (λ q a. rw (c .others q a) (v .range q));
+        range = split p (λ q. InRange (T .top q) (phases q)) (c .in-range) (λ q a. rw (c .others q a) (v .range q));
         order = order′;
-        once = λ k a b l l′ m m′ q. v .once k a b (omega (arith, lo-less k)) l′ (omega (arith, lo-less k)) m′ q;
+        once = λ k a b l l′ m m′ q. v .once k a b (omega (arith, head-grows k)) l′ (omega (arith, head-grows k)) m′ q;
         empty = empty′;
         tail = tail′;
-        ends = λ k a l z. v .ends k a (omega (arith, lo-less k)) z;
-        heads =
-            split p (λ q. (j : ℕ) → On (T .top q) j → level (T .top q) (ph q) ≤ j → Heads T s′ q j) heads-p heads-o;
+        ends = λ k a l z. v .ends k a (omega (arith, head-grows k)) z;
+        heads = split p
+            (λ q. (j : ℕ) → On (T .top q) j → level (T .top q) (phases q) ≤ j → Heads T s′ q j)
+            heads-p
+            heads-o;
         holder = split (T .elem p i)
-            (λ k. lo k < s .hi k → Holder T s′ k)
+            (λ k. head-turn k < s .next-turn k → Holder T s′ k)
             (λ z. absurd (omega (arith, now-empty)))
             (λ k ne l. holder-o k ne (v .holder k (omega (arith, c .stay k ne))));
-        member = λ k a l l′. member-of k a (v .member k a (omega (arith, lo-less k)) l′);
+        member = λ k a l l′. member-of k a (v .member k a (omega (arith, head-grows k)) l′);
         asks = split p
-            (λ q. Asks T s′ q (ph q))
-            (calm-asks T s′ p (ph p) (c .calm))
-            (λ q a. rw (c .others q a) (asks-o q (s .ph q) (v .asks q)));
+            (λ q. Asks T s′ q (phases q))
+            (calm-asks T s′ p (phases p) (c .calm))
+            (λ q a. rw (c .others q a) (asks-o q (s .phases q) (v .asks q)));
       }

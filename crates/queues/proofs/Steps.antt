@@ -11,7 +11,8 @@ use Rattle.queues.specs.Machine.{Tree, Lawful, On, Phase, out, fresh, clean, r
 use Rattle.queues.specs.Machine.{InRange, Waits, Calm, Asks, State, Inv}
 use Rattle.queues.specs.Rows.{Place, idle, W1, W2, W3, W4, W5, W6, W7, W8, W9, U1, U2, U3, U4, U5, U6, U7, U8, U9}
 use Rattle.queues.specs.Rows.{U10, R1, R2, R3, R4, R5, R6, R7, writes, reads, WAIT, tell, Plan, Lock, upd, phaseOf}
-use Rattle.queues.specs.Rows.{at-level, phase, view, Counts, Sound, Fine, go, put-nx, put-st, join, drop, free, done}
+use Rattle.queues.specs.Rows.{at-level, phase, view, Counts, Sound, Fine, go, put-next, put-status, join, drop, free}
+use Rattle.queues.specs.Rows.{done}
 use Rattle.queues.specs.Rows.{next, row, step}
 use Rattle.queues.specs.Claim.{fresh-lock}
 use Rattle.queues.proofs.Base.{one-owner, one-holder, range-of, asked, Successor, successor}
@@ -26,15 +27,15 @@ use Rattle.queues.proofs.View.{sound-same}
 
 -- the phase of a rank whose place is known
 pub phase-at : (T : Tree) (s : Lock) (p : ℕ) (f : Place) → s .place p ≡ f
-    → phase T s p ≡ phaseOf f (s .st (T .node p (at-level f)))
-phase-at T s p f e = ap (λ g. phaseOf g (s .st (T .node p (at-level g)))) e
+    → phase T s p ≡ phaseOf f (s .statuses (T .node p (at-level f)))
+phase-at T s p f e = ap (λ g. phaseOf g (s .statuses (T .node p (at-level g)))) e
 
 pub phase-now : (T : Tree) (s : Lock) (p : ℕ) (f : Place)
-    → phase T (go s p f) p ≡ phaseOf f (s .st (T .node p (at-level f)))
+    → phase T (go s p f) p ≡ phaseOf f (s .statuses (T .node p (at-level f)))
 phase-now T s p f = phase-at T (go s p f) p f (upd-same (s .place) p f)
 
 pub phase-other : (T : Tree) (s : Lock) (p : ℕ) (f : Place) (q : ℕ) → q ≢ p → phase T (go s p f) q ≡ phase T s q
-phase-other T s p f q a = ap (λ g. phaseOf g (s .st (T .node q (at-level g)))) (upd-other (s .place) p f q a)
+phase-other T s p f q a = ap (λ g. phaseOf g (s .statuses (T .node q (at-level g)))) (upd-other (s .place) p f q a)
 
 -- only W5 waits
 w5-waits : (i j : ℕ) (a b : Bool) → cond a (wait j) (cond b (hold 1) (hold j)) ≡ wait i → W5 j ≡ W5 i
@@ -80,9 +81,9 @@ pub done-ok : (top i : ℕ) → On top i → (b : Bool) → eqb i top ≡ b → 
 done-ok top i on true e w = (omega (arith, eqb-true i top e), tt, tt)
 done-ok top i on false e w = let ne : i ≢ top = eqb-false i top e in (refl, tt, omega arith)
 
-pub done-sound : (L : Plan) (st : ℕ → ℕ) (p i : ℕ) (b : Bool) → Sound L st p (cond b idle (U8 (suc i)))
-done-sound L st p i true = tt
-done-sound L st p i false = tt
+pub done-sound : (L : Plan) (statuses : ℕ → ℕ) (p i : ℕ) (b : Bool) → Sound L statuses p (cond b idle (U8 (suc i)))
+done-sound L statuses p i true = tt
+done-sound L statuses p i false = tt
 
 module _ (L : Plan) (G : Lawful (L .tree)) (small : (q j : ℕ) → L .cap q j ≤ 1000) (s : Lock) (v : Fine L s) where
   abbrev T : Tree
@@ -92,37 +93,37 @@ module _ (L : Plan) (G : Lawful (L .tree)) (small : (q j : ℕ) → L .cap q j �
   inv = v .queues
 
   -- a STATUS written at the node of one rank is no other's
-  pub st-other : (o i u : ℕ) → On (T .top o) i → level (T .top o) (phase T s o) ≤ suc i → (q j : ℕ) → q ≢ o
+  pub status-other : (o i u : ℕ) → On (T .top o) i → level (T .top o) (phase T s o) ≤ suc i → (q j : ℕ) → q ≢ o
       → On (T .top q) j → level (T .top q) (phase T s q) ≤ suc j
-      → upd (s .st) (T .node o i) u (T .node q j) ≡ s .st (T .node q j)
-  st-other o i u on l q j a on′ l′ =
-      upd-other (s .st) (T .node o i) u (T .node q j) (λ z. a (one-owner T G (view T s) inv q o j i on′ on l′ l z .0))
+      → upd (s .statuses) (T .node o i) u (T .node q j) ≡ s .statuses (T .node q j)
+  status-other o i u on l q j a on′ l′ = upd-other (s .statuses) (T .node o i) u (T .node q j)
+      (λ z. a (one-owner T G (view T s) inv q o j i on′ on l′ l z .0))
 
   -- so it changes no other's phase
-  phase-st : (o i u : ℕ) → On (T .top o) i → level (T .top o) (phase T s o) ≤ suc i → (q : ℕ) → q ≢ o
-      → phase T (put-st s (T .node o i) u) q ≡ phase T s q
-  phase-st o i u on l q a = phase-same (s .place q) (s .st (T .node q (at-level (s .place q))))
-      (upd (s .st) (T .node o i) u (T .node q (at-level (s .place q))))
+  phase-status : (o i u : ℕ) → On (T .top o) i → level (T .top o) (phase T s o) ≤ suc i → (q : ℕ) → q ≢ o
+      → phase T (put-status s (T .node o i) u) q ≡ phase T s q
+  phase-status o i u on l q a = phase-same (s .place q) (s .statuses (T .node q (at-level (s .place q))))
+      (upd (s .statuses) (T .node o i) u (T .node q (at-level (s .place q))))
       (λ j e.
       subst
-      (λ f. upd (s .st) (T .node o i) u (T .node q (at-level f)) ≡ s .st (T .node q (at-level f)))
+      (λ f. upd (s .statuses) (T .node o i) u (T .node q (at-level f)) ≡ s .statuses (T .node q (at-level f)))
       (sym e)
-      (st-other o i u on l q j a (subst (Sound L (s .st) q) e (v .sound q) .0)
-      (rw (phase-at T s q (W5 j) e) (w5-level (T .top q) j (s .st (T .node q j))))))
+      (status-other o i u on l q j a (subst (Sound L (s .statuses) q) e (v .sound q) .0)
+      (rw (phase-at T s q (W5 j) e) (w5-level (T .top q) j (s .statuses (T .node q j))))))
 
   -- and nothing that another's place says
-  sound-st : (o i u : ℕ) → On (T .top o) i → level (T .top o) (phase T s o) ≤ suc i → (q : ℕ) → q ≢ o
-      → Sound L (upd (s .st) (T .node o i) u) q (s .place q)
-  sound-st o i u on l q a = sound-same L small (s .st) (upd (s .st) (T .node o i) u) q (s .place q)
-      (λ j on′ l′. st-other o i u on l q j a on′ l′)
+  sound-status : (o i u : ℕ) → On (T .top o) i → level (T .top o) (phase T s o) ≤ suc i → (q : ℕ) → q ≢ o
+      → Sound L (upd (s .statuses) (T .node o i) u) q (s .place q)
+  sound-status o i u on l q a = sound-same L small (s .statuses) (upd (s .statuses) (T .node o i) u) q (s .place q)
+      (λ j on′ l′. status-other o i u on l q j a on′ l′)
       (v .sound q)
       (inv .range q)
 
   -- a rank's new place, and the others'
-  sound-go : (st : ℕ → ℕ) (p : ℕ) (f : Place) → Sound L st p f → ((q : ℕ) → q ≢ p → Sound L st q (s .place q))
-      → (q : ℕ) → Sound L st q (upd (s .place) p f q)
-  sound-go st p f here there = split p
-      (λ q. Sound L st q (upd (s .place) p f q))
+  sound-go : (statuses : ℕ → ℕ) (p : ℕ) (f : Place) → Sound L statuses p f
+      → ((q : ℕ) → q ≢ p → Sound L statuses q (s .place q)) → (q : ℕ) → Sound L statuses q (upd (s .place) p f q)
+  sound-go statuses p f here there = split p
+      (λ q. Sound L statuses q (upd (s .place) p f q))
       (rw (upd-same (s .place) p f) here)
       (λ q a. rw (upd-other (s .place) p f q a) (there q a))
 
@@ -132,7 +133,7 @@ module _ (L : Plan) (G : Lawful (L .tree)) (small : (q j : ℕ) → L .cap q j �
       let now : phase T (go s p (W2 i)) p ≡ clean i = phase-now T s p (W2 i) in
       let on : On (T .top p) i = range-of (phase T s p) (T .top p) (inv .range p) (fresh i) was in
       record {
-        queues = kept-by T G (view T s) inv p (phase T (go s p (W2 i))) (upd (s .nx) (T .node p i) 0) (record {
+        queues = kept-by T G (view T s) inv p (phase T (go s p (W2 i))) (upd (s .nexts) (T .node p i) 0) (record {
           levels = rw (now, was);
           in-range = rw now on;
           idle = λ j w. subst (λ f. Waits f j) was w;
@@ -140,44 +141,44 @@ module _ (L : Plan) (G : Lawful (L .tree)) (small : (q j : ℕ) → L .cap q j �
           words = λ y.
               ⊎-elim
               (λ (z : y ≡ T .node p i). inr (record { lvl = i; on = on; near = rw was refl; is = z }))
-              (λ (z : y ≡ T .node p i → ⊥). inl (upd-other (s .nx) (T .node p i) 0 y z))
+              (λ (z : y ≡ T .node p i → ⊥). inl (upd-other (s .nexts) (T .node p i) 0 y z))
               (cases-eq y (T .node p i));
-          says = rw now (upd-same (s .nx) (T .node p i) 0);
+          says = rw now (upd-same (s .nexts) (T .node p i) 0);
         });
-        sound = sound-go (s .st) p (W2 i) (subst (Sound L (s .st) p) e (v .sound p)) (λ q a. v .sound q);
+        sound = sound-go (s .statuses) p (W2 i) (subst (Sound L (s .statuses) p) e (v .sound p)) (λ q a. v .sound q);
       }
 
   -- a rank's own statuses at other levels
-  st-own : (p i u j : ℕ) → On (T .top p) i → On (T .top p) j → j ≢ i
-      → upd (s .st) (T .node p i) u (T .node p j) ≡ s .st (T .node p j)
-  st-own p i u j on on′ ne =
-      upd-other (s .st) (T .node p i) u (T .node p j) (λ z. ne (G .queue-of p p j i on′ on z .0))
+  status-own : (p i u j : ℕ) → On (T .top p) i → On (T .top p) j → j ≢ i
+      → upd (s .statuses) (T .node p i) u (T .node p j) ≡ s .statuses (T .node p j)
+  status-own p i u j on on′ ne =
+      upd-other (s .statuses) (T .node p i) u (T .node p j) (λ z. ne (G .queue-of p p j i on′ on z .0))
 
-  counts-own : (p i u : ℕ) → On (T .top p) i → Counts L (s .st) p (suc i)
-      → Counts L (upd (s .st) (T .node p i) u) p (suc i)
-  counts-own p i u on c j a b = rw (st-own p i u j on (omega arith) (omega arith)) (c j a b)
+  counts-own : (p i u : ℕ) → On (T .top p) i → Counts L (s .statuses) p (suc i)
+      → Counts L (upd (s .statuses) (T .node p i) u) p (suc i)
+  counts-own p i u on c j a b = rw (status-own p i u j on (omega arith) (omega arith)) (c j a b)
 
   -- a move that writes no word of a queue
-  moved : (p : ℕ) (g : Place) (ar de : ℕ → ℕ)
-      → level (T .top p) (phaseOf g (s .st (T .node p (at-level g)))) ≡ level (T .top p) (phase T s p)
-      → InRange (T .top p) (phaseOf g (s .st (T .node p (at-level g)))) → ((j : ℕ) → Waits (phase T s p) j → ⊥)
-      → Asks T (prepared (view T s) (phase T (go s p g)) (s .nx)) p (phaseOf g (s .st (T .node p (at-level g))))
-      → Sound L (s .st) p g
+  moved : (p : ℕ) (g : Place) (arrives departs : ℕ → ℕ)
+      → level (T .top p) (phaseOf g (s .statuses (T .node p (at-level g)))) ≡ level (T .top p) (phase T s p)
+      → InRange (T .top p) (phaseOf g (s .statuses (T .node p (at-level g)))) → ((j : ℕ) → Waits (phase T s p) j → ⊥)
+      → Asks T (prepared (view T s) (phase T (go s p g)) (s .nexts)) p
+      (phaseOf g (s .statuses (T .node p (at-level g)))) → Sound L (s .statuses) p g
       → Fine L (record {
         place = upd (s .place) p g;
-        nx = s .nx;
-        st = s .st;
-        tl = s .tl;
-        ar = ar;
-        de = de;
-        at = s .at;
-        lo = s .lo;
-        hi = s .hi;
+        nexts = s .nexts;
+        statuses = s .statuses;
+        tails = s .tails;
+        arrives = arrives;
+        departs = departs;
+        node-at = s .node-at;
+        head-turn = s .head-turn;
+        next-turn = s .next-turn;
       })
-  moved p g ar de lv rg ws ak so =
-      let now : phase T (go s p g) p ≡ phaseOf g (s .st (T .node p (at-level g))) = phase-now T s p g in
+  moved p g arrives departs lv rg ws ak so =
+      let now : phase T (go s p g) p ≡ phaseOf g (s .statuses (T .node p (at-level g))) = phase-now T s p g in
       record {
-        queues = kept-by T G (view T s) inv p (phase T (go s p g)) (s .nx) (record {
+        queues = kept-by T G (view T s) inv p (phase T (go s p g)) (s .nexts) (record {
           levels = rw now lv;
           in-range = rw now rg;
           idle = ws;
@@ -185,62 +186,66 @@ module _ (L : Plan) (G : Lawful (L .tree)) (small : (q j : ℕ) → L .cap q j �
           words = λ y. inl refl;
           says = rw now ak;
         });
-        sound = sound-go (s .st) p g so (λ q a. v .sound q);
+        sound = sound-go (s .statuses) p g so (λ q a. v .sound q);
       }
 
   fine-W2 : (p i : ℕ) → s .place p ≡ W2 i → Fine L (row L s p (W2 i))
   fine-W2 p i e =
-      let s₁ : Lock = put-st s (T .node p i) WAIT in
+      let s₁ : Lock = put-status s (T .node p i) WAIT in
       let was : phase T s p ≡ clean i = phase-at T s p (W2 i) e in
       let now : phase T (go s₁ p (W3 i)) p ≡ ready i = phase-now T s₁ p (W3 i) in
       let on : On (T .top p) i = range-of (phase T s p) (T .top p) (inv .range p) (clean i) was in
       let lv : level (T .top p) (phase T s p) ≤ suc i = rw was (omega arith) in
       record {
-        queues = kept-by T G (view T s) inv p (phase T (go s₁ p (W3 i))) (s .nx) (record {
+        queues = kept-by T G (view T s) inv p (phase T (go s₁ p (W3 i))) (s .nexts) (record {
           levels = rw (now, was);
           in-range = rw now on;
           idle = λ j w. subst (λ f. Waits f j) was w;
-          others = λ q a. phase-other T s₁ p (W3 i) q a ∙ phase-st p i WAIT on lv q a;
+          others = λ q a. phase-other T s₁ p (W3 i) q a ∙ phase-status p i WAIT on lv q a;
           words = λ y. inl refl;
           says = rw now (asked T (view T s) inv p (clean i) was);
         });
-        sound = sound-go (s₁ .st) p (W3 i)
-            (upd-same (s .st) (T .node p i) WAIT, counts-own p i WAIT on (subst (Sound L (s .st) p) e (v .sound p)))
-            (λ q a. sound-st p i WAIT on lv q a);
+        sound = sound-go (s₁ .statuses) p (W3 i) (
+          upd-same (s .statuses) (T .node p i) WAIT,
+          counts-own p i WAIT on (subst (Sound L (s .statuses) p) e (v .sound p)),
+        )
+            (λ q a. sound-status p i WAIT on lv q a);
       }
 
   fine-W4 : (p i t : ℕ) → s .place p ≡ W4 i t → Fine L (row L s p (W4 i t))
   fine-W4 p i t e =
       let was : phase T s p ≡ link i t = phase-at T s p (W4 i t) e in
-      let so : (s .st (T .node p i) ≡ WAIT) × Counts L (s .st) p (suc i) = subst (Sound L (s .st) p) e (v .sound p) in
+      let so : (s .statuses (T .node p i) ≡ WAIT) × Counts L (s .statuses) p (suc i) =
+      subst (Sound L (s .statuses) p) e (v .sound p) in
       let now : phase T (go s p (W5 i)) p ≡ wait i =
-      phase-now T s p (W5 i) ∙ w5-wait i (s .st (T .node p i)) (so .0) in
+      phase-now T s p (W5 i) ∙ w5-wait i (s .statuses (T .node p i)) (so .0) in
       let on : On (T .top p) i = range-of (phase T s p) (T .top p) (inv .range p) (link i t) was in
       record {
-        queues = linked-up T G (view T s) inv p i t was (phase T (go s p (W5 i))) (upd (s .nx) t (T .node p i))
+        queues = linked-up T G (view T s) inv p i t was (phase T (go s p (W5 i))) (upd (s .nexts) t (T .node p i))
             (record {
               after = now;
               others = phase-other T s p (W5 i);
-              written = upd-same (s .nx) t (T .node p i);
-              words = λ y z. upd-other (s .nx) t (T .node p i) y z;
+              written = upd-same (s .nexts) t (T .node p i);
+              words = λ y z. upd-other (s .nexts) t (T .node p i) y z;
             });
-        sound = sound-go (s .st) p (W5 i) (on, so .1, inl (so .0)) (λ q a. v .sound q);
+        sound = sound-go (s .statuses) p (W5 i) (on, so .1, inl (so .0)) (λ q a. v .sound q);
       }
 
   fine-W5 : (p i : ℕ) → s .place p ≡ W5 i → Fine L (row L s p (W5 i))
   fine-W5 p i e = by (eqb w WAIT) (leb w 1000) (eqb w (tell i)) refl refl refl
     where
       w : ℕ
-      w = s .st (T .node p i)
+      w = s .statuses (T .node p i)
 
-      so : On (T .top p) i × Counts L (s .st) p (suc i) × ((w ≡ WAIT) ⊎ ((w ≡ tell i) ⊎ Counts L (s .st) p 1))
-      so = subst (Sound L (s .st) p) e (v .sound p)
+      so : On (T .top p) i × Counts L (s .statuses) p (suc i)
+          × ((w ≡ WAIT) ⊎ ((w ≡ tell i) ⊎ Counts L (s .statuses) p 1))
+      so = subst (Sound L (s .statuses) p) e (v .sound p)
 
-      all : w ≢ WAIT → w ≢ tell i → Counts L (s .st) p 1
+      all : w ≢ WAIT → w ≢ tell i → Counts L (s .statuses) p 1
       all a b = ⊎-elim
           (λ (z : w ≡ WAIT). absurd (a z))
-          (λ (z : (w ≡ tell i) ⊎ Counts L (s .st) p 1).
-          ⊎-elim (λ (y : w ≡ tell i). absurd (b y)) (λ (y : Counts L (s .st) p 1). y) z)
+          (λ (z : (w ≡ tell i) ⊎ Counts L (s .statuses) p 1).
+          ⊎-elim (λ (y : w ≡ tell i). absurd (b y)) (λ (y : Counts L (s .statuses) p 1). y) z)
           (so .2)
 
       by : (a b c : Bool) → eqb w WAIT ≡ a → leb w 1000 ≡ b → eqb w (tell i) ≡ c
@@ -248,39 +253,39 @@ module _ (L : Plan) (G : Lawful (L .tree)) (small : (q j : ℕ) → L .cap q j �
       by true b c x y z = v
       by false true c x y z =
           let was : phase T s p ≡ hold 1 = phase-at T s p (W5 i) e ∙ w5-count i w (leb-true w 1000 y) in
-          moved p writes (s .ar) (s .de) (rw was) (omega (arith, so .0))
+          moved p writes (s .arrives) (s .departs) (rw was) (omega (arith, so .0))
           (λ j k. subst (λ f. Waits f j) was k)
           tt
           (all (eqb-false w WAIT x) (omega (arith, tell-big i, leb-true w 1000 y)))
       by false false true x y z =
           let was : phase T s p ≡ hold i =
           phase-at T s p (W5 i) e ∙ w5-told i w (eqb-false w WAIT x) (leb-false w 1000 y) in
-          moved p (W6 i) (s .ar) (s .de) (rw was) (so .0) (λ j k. subst (λ f. Waits f j) was k) tt (so .1)
+          moved p (W6 i) (s .arrives) (s .departs) (rw was) (so .0) (λ j k. subst (λ f. Waits f j) was k) tt (so .1)
       by false false false x y z = v
 
   -- a rank writes its own STATUS
   wrote : (p i u : ℕ) (g : Place) → On (T .top p) i → level (T .top p) (phase T s p) ≤ suc i
-      → level (T .top p) (phaseOf g (upd (s .st) (T .node p i) u (T .node p (at-level g))))
+      → level (T .top p) (phaseOf g (upd (s .statuses) (T .node p i) u (T .node p (at-level g))))
       ≡ level (T .top p) (phase T s p)
-      → InRange (T .top p) (phaseOf g (upd (s .st) (T .node p i) u (T .node p (at-level g))))
+      → InRange (T .top p) (phaseOf g (upd (s .statuses) (T .node p i) u (T .node p (at-level g))))
       → ((j : ℕ) → Waits (phase T s p) j → ⊥)
-      → Calm (phaseOf g (upd (s .st) (T .node p i) u (T .node p (at-level g))))
-      → Sound L (upd (s .st) (T .node p i) u) p g → Fine L (go (put-st s (T .node p i) u) p g)
+      → Calm (phaseOf g (upd (s .statuses) (T .node p i) u (T .node p (at-level g))))
+      → Sound L (upd (s .statuses) (T .node p i) u) p g → Fine L (go (put-status s (T .node p i) u) p g)
   wrote p i u g on l lv rg ws cm so =
-      let s₁ : Lock = put-st s (T .node p i) u in
-      let now : phase T (go s₁ p g) p ≡ phaseOf g (s₁ .st (T .node p (at-level g))) = phase-now T s₁ p g in
+      let s₁ : Lock = put-status s (T .node p i) u in
+      let now : phase T (go s₁ p g) p ≡ phaseOf g (s₁ .statuses (T .node p (at-level g))) = phase-now T s₁ p g in
       record {
-        queues = kept-by T G (view T s) inv p (phase T (go s₁ p g)) (s .nx) (record {
+        queues = kept-by T G (view T s) inv p (phase T (go s₁ p g)) (s .nexts) (record {
           levels = rw now lv;
           in-range = rw now rg;
           idle = ws;
-          others = λ q a. phase-other T s₁ p g q a ∙ phase-st p i u on l q a;
+          others = λ q a. phase-other T s₁ p g q a ∙ phase-status p i u on l q a;
           words = λ y. inl refl;
           says = rw now
-              (calm-asks T (prepared (view T s) (phase T (go s₁ p g)) (s .nx)) p
-              (phaseOf g (s₁ .st (T .node p (at-level g)))) cm);
+              (calm-asks T (prepared (view T s) (phase T (go s₁ p g)) (s .nexts)) p
+              (phaseOf g (s₁ .statuses (T .node p (at-level g)))) cm);
         });
-        sound = sound-go (s₁ .st) p g so (λ q a. sound-st p i u on l q a);
+        sound = sound-go (s₁ .statuses) p g so (λ q a. sound-status p i u on l q a);
       }
 
   fine-W6 : (p i : ℕ) → s .place p ≡ W6 i → Fine L (row L s p (W6 i))
@@ -295,16 +300,16 @@ module _ (L : Plan) (G : Lawful (L .tree)) (small : (q j : ℕ) → L .cap q j �
       lv : level (T .top p) (phase T s p) ≡ i
       lv = ap (level (T .top p)) was
 
-      so : Counts L (s .st) p (suc i)
-      so = subst (Sound L (s .st) p) e (v .sound p)
+      so : Counts L (s .statuses) p (suc i)
+      so = subst (Sound L (s .statuses) p) e (v .sound p)
 
-      so′ : Counts L (upd (s .st) (T .node p i) 0) p i
+      so′ : Counts L (upd (s .statuses) (T .node p i) 0) p i
       so′ j a b = ⊎-elim
-          (λ (z : j ≡ i). rw (z, upd-same (s .st) (T .node p i) 0) (omega arith))
+          (λ (z : j ≡ i). rw (z, upd-same (s .statuses) (T .node p i) 0) (omega arith))
           (λ (z : j ≡ i → ⊥). counts-own p i 0 on so j (omega arith) b)
           (cases-eq j i)
 
-      by : (b : Bool) → leb 2 i ≡ b → Fine L (go (put-st s (T .node p i) 0) p (cond b (W1 (pred i)) (W7 0)))
+      by : (b : Bool) → leb 2 i ≡ b → Fine L (go (put-status s (T .node p i) 0) p (cond b (W1 (pred i)) (W7 0)))
       by true z = wrote p i 0 (W1 (pred i)) on (omega (arith, lv)) (omega (arith, lv, leb-true 2 i z))
           (omega (arith, on, leb-true 2 i z))
           (λ j k. subst (λ f. Waits f j) was k)
@@ -317,7 +322,7 @@ module _ (L : Plan) (G : Lawful (L .tree)) (small : (q j : ℕ) → L .cap q j �
           (λ j a b. so′ j (omega (arith, leb-false 2 i z)) b)
 
   fine-W3 : (p i : ℕ) → s .place p ≡ W3 i → Fine L (row L s p (W3 i))
-  fine-W3 p i e = by (eqb (s .tl K) 0) refl
+  fine-W3 p i e = by (eqb (s .tails K) 0) refl
     where
       K : ℕ
       K = T .elem p i
@@ -328,66 +333,72 @@ module _ (L : Plan) (G : Lawful (L .tree)) (small : (q j : ℕ) → L .cap q j �
       was : phase T s p ≡ ready i
       was = phase-at T s p (W3 i) e
 
-      so : (s .st X ≡ WAIT) × Counts L (s .st) p (suc i)
-      so = subst (Sound L (s .st) p) e (v .sound p)
+      so : (s .statuses X ≡ WAIT) × Counts L (s .statuses) p (suc i)
+      so = subst (Sound L (s .statuses) p) e (v .sound p)
 
-      old : (k a : ℕ) → a < s .hi k → upd (s .at) K (upd (s .at K) (s .hi K) X) k a ≡ s .at k a
+      old : (k a : ℕ) → a < s .next-turn k
+          → upd (s .node-at) K (upd (s .node-at K) (s .next-turn K) X) k a ≡ s .node-at k a
       old = split K
-          (λ k. (a : ℕ) → a < s .hi k → upd (s .at) K (upd (s .at K) (s .hi K) X) k a ≡ s .at k a)
+          (λ k.
+          (a : ℕ) → a < s .next-turn k
+          → upd (s .node-at) K (upd (s .node-at K) (s .next-turn K) X) k a ≡ s .node-at k a)
           (λ a l.
-          rw (upd-same (s .at) K (upd (s .at K) (s .hi K) X)) (upd-other (s .at K) (s .hi K) X a (omega arith)))
-          (λ k ne a l. rw (upd-other (s .at) K (upd (s .at K) (s .hi K) X) k ne))
+          rw (upd-same (s .node-at) K (upd (s .node-at K) (s .next-turn K) X))
+          (upd-other (s .node-at K) (s .next-turn K) X a (omega arith)))
+          (λ k ne a l. rw (upd-other (s .node-at) K (upd (s .node-at K) (s .next-turn K) X) k ne))
 
-      new : upd (s .at) K (upd (s .at K) (s .hi K) X) K (s .hi K) ≡ X
-      new = rw (upd-same (s .at) K (upd (s .at K) (s .hi K) X)) (upd-same (s .at K) (s .hi K) X)
+      new : upd (s .node-at) K (upd (s .node-at K) (s .next-turn K) X) K (s .next-turn K) ≡ X
+      new = rw (upd-same (s .node-at) K (upd (s .node-at K) (s .next-turn K) X))
+          (upd-same (s .node-at K) (s .next-turn K) X)
 
       to : (g : Place)
-          → ((s .tl K ≡ 0) × (phase T (go s p g) p ≡ hold i))
-          ⊎ ((s .tl K ≢ 0) × (phase T (go s p g) p ≡ link i (s .tl K))) → Sound L (s .st) p g
+          → ((s .tails K ≡ 0) × (phase T (go s p g) p ≡ hold i))
+          ⊎ ((s .tails K ≢ 0) × (phase T (go s p g) p ≡ link i (s .tails K))) → Sound L (s .statuses) p g
           → Fine L (go (join s K X) p g)
       to g h so =
           record {
-            queues = joined-up T G (view T s) inv p i was (phase T (go s p g)) (upd (s .tl) K X)
-                (upd (s .at) K (upd (s .at K) (s .hi K) X)) (upd (s .hi) K (suc (s .hi K))) (record {
+            queues = joined-up T G (view T s) inv p i was (phase T (go s p g)) (upd (s .tails) K X)
+                (upd (s .node-at) K (upd (s .node-at K) (s .next-turn K) X))
+                (upd (s .next-turn) K (suc (s .next-turn K))) (record {
                   after = h;
                   others = phase-other T s p g;
-                  here = upd-same (s .tl) K X;
-                  tails = λ k ne. upd-other (s .tl) K X k ne;
+                  here = upd-same (s .tails) K X;
+                  other-tails = λ k ne. upd-other (s .tails) K X k ne;
                   old = old;
                   new = new;
-                  more = upd-same (s .hi) K (suc (s .hi K));
-                  stay = λ k ne. upd-other (s .hi) K (suc (s .hi K)) k ne;
+                  more = upd-same (s .next-turn) K (suc (s .next-turn K));
+                  stay = λ k ne. upd-other (s .next-turn) K (suc (s .next-turn K)) k ne;
                 });
-            sound = sound-go (s .st) p g so (λ q a. v .sound q);
+            sound = sound-go (s .statuses) p g so (λ q a. v .sound q);
           }
 
-      by : (b : Bool) → eqb (s .tl K) 0 ≡ b → Fine L (go (join s K X) p (cond b (W6 i) (W4 i (s .tl K))))
-      by true z = to (W6 i) (inl (eqb-true (s .tl K) 0 z, phase-now T s p (W6 i))) (so .1)
-      by false z = to (W4 i (s .tl K)) (inr (eqb-false (s .tl K) 0 z, phase-now T s p (W4 i (s .tl K)))) so
+      by : (b : Bool) → eqb (s .tails K) 0 ≡ b → Fine L (go (join s K X) p (cond b (W6 i) (W4 i (s .tails K))))
+      by true z = to (W6 i) (inl (eqb-true (s .tails K) 0 z, phase-now T s p (W6 i))) (so .1)
+      by false z = to (W4 i (s .tails K)) (inr (eqb-false (s .tails K) 0 z, phase-now T s p (W4 i (s .tails K)))) so
 
   -- a hand-over: the successor's STATUS becomes u
   gave : (p h i t u : ℕ) → phase T s p ≡ give h i t → phaseOf (W5 i) u ≡ hold h
-      → ((n : Successor T (view T s) p i t) → Sound L (upd (s .st) (T .node (n .rank) i) u) (n .rank) (W5 i))
-      → Fine L (go (drop (put-st s t u) (T .elem p i)) p (done L s p i))
+      → ((n : Successor T (view T s) p i t) → Sound L (upd (s .statuses) (T .node (n .rank) i) u) (n .rank) (W5 i))
+      → Fine L (go (drop (put-status s t u) (T .elem p i)) p (done L s p i))
   gave p h i t u was told so = subst
-      (λ y. Fine L (go (drop (put-st s y u) (T .elem p i)) p (done L s p i)))
+      (λ y. Fine L (go (drop (put-status s y u) (T .elem p i)) p (done L s p i)))
       (sym (n .target)) (record {
-        queues = handed T G (view T s) inv p h i t was n ph (upd (s .lo) K (suc (s .lo K))) (record {
+        queues = handed T G (view T s) inv p h i t was n phases (upd (s .head-turn) K (suc (s .head-turn K))) (record {
           giver = rw now (ok .0);
           calm = rw now (ok .1);
           in-range = rw now (ok .2);
           taker = phase-other T s₁ p (done L s p i) r r≢p
-              ∙ (phase-at T s₁ r (W5 i) at-r ∙ (rw (upd-same (s .st) (T .node r i) u) told));
-          others = λ q a b. phase-other T s₁ p (done L s p i) q a ∙ phase-st r i u (n .on) lv q b;
-          gone = upd-same (s .lo) K (suc (s .lo K));
-          stay = λ k ne. upd-other (s .lo) K (suc (s .lo K)) k ne;
+              ∙ (phase-at T s₁ r (W5 i) at-r ∙ (rw (upd-same (s .statuses) (T .node r i) u) told));
+          others = λ q a b. phase-other T s₁ p (done L s p i) q a ∙ phase-status r i u (n .on) lv q b;
+          head-gone = upd-same (s .head-turn) K (suc (s .head-turn K));
+          stay = λ k ne. upd-other (s .head-turn) K (suc (s .head-turn K)) k ne;
         });
-        sound = sound-go (s₁ .st) p (done L s p i) (done-sound L (s₁ .st) p i (eqb i (T .top p)))
+        sound = sound-go (s₁ .statuses) p (done L s p i) (done-sound L (s₁ .statuses) p i (eqb i (T .top p)))
             (λ q a.
             split r
-            (λ q. q ≢ p → Sound L (s₁ .st) q (s .place q))
+            (λ q. q ≢ p → Sound L (s₁ .statuses) q (s .place q))
             (λ _. rw at-r (so n))
-            (λ q b _. sound-st r i u (n .on) lv q b)
+            (λ q b _. sound-status r i u (n .on) lv q b)
             q
             a);
       })
@@ -402,25 +413,25 @@ module _ (L : Plan) (G : Lawful (L .tree)) (small : (q j : ℕ) → L .cap q j �
       K = T .elem p i
 
       s₁ : Lock
-      s₁ = put-st s (T .node r i) u
+      s₁ = put-status s (T .node r i) u
 
-      ph : ℕ → Phase
-      ph = phase T (go s₁ p (done L s p i))
+      phases : ℕ → Phase
+      phases = phase T (go s₁ p (done L s p i))
 
       rg : (1 ≤ h) × (h ≤ i) × (i ≤ T .top p)
       rg = range-of (phase T s p) (T .top p) (inv .range p) (give h i t) was
 
-      now : ph p ≡ phaseOf (done L s p i) (s₁ .st (T .node p (at-level (done L s p i))))
+      now : phases p ≡ phaseOf (done L s p i) (s₁ .statuses (T .node p (at-level (done L s p i))))
       now = phase-now T s₁ p (done L s p i)
 
-      ok : (level (T .top p) (phaseOf (done L s p i) (s₁ .st (T .node p (at-level (done L s p i))))) ≡ suc i)
-          × Calm (phaseOf (done L s p i) (s₁ .st (T .node p (at-level (done L s p i)))))
-          × InRange (T .top p) (phaseOf (done L s p i) (s₁ .st (T .node p (at-level (done L s p i)))))
+      ok : (level (T .top p) (phaseOf (done L s p i) (s₁ .statuses (T .node p (at-level (done L s p i))))) ≡ suc i)
+          × Calm (phaseOf (done L s p i) (s₁ .statuses (T .node p (at-level (done L s p i)))))
+          × InRange (T .top p) (phaseOf (done L s p i) (s₁ .statuses (T .node p (at-level (done L s p i)))))
       ok = done-ok (T .top p) i (omega (arith, rg)) (eqb i (T .top p)) refl
-          (s₁ .st (T .node p (at-level (done L s p i))))
+          (s₁ .statuses (T .node p (at-level (done L s p i))))
 
       at-r : s .place r ≡ W5 i
-      at-r = only-W5 (s .place r) (s .st (T .node r (at-level (s .place r)))) i (n .waits)
+      at-r = only-W5 (s .place r) (s .statuses (T .node r (at-level (s .place r)))) i (n .waits)
 
       r≢p : r ≢ p
       r≢p z = subst (λ f. Waits f i) (sym (n .waits) ∙ (ap (phase T s) z ∙ was)) refl
@@ -438,7 +449,7 @@ module _ (L : Plan) (G : Lawful (L .tree)) (small : (q j : ℕ) → L .cap q j �
   fine-U3 p i t n e = gave p 1 i t n was (w5-count i n (omega (arith, so .0, small i)))
       (λ c. (
         c .on,
-        (λ j a b. rw (st-own (c .rank) i n j (c .on) (omega arith) (omega arith)) (own c j a b)),
+        (λ j a b. rw (status-own (c .rank) i n j (c .on) (omega arith) (omega arith)) (own c j a b)),
         inr (inr (all c)),
       ))
     where
@@ -448,62 +459,63 @@ module _ (L : Plan) (G : Lawful (L .tree)) (small : (q j : ℕ) → L .cap q j �
       rg : (1 ≤ 1) × (1 ≤ i) × (i ≤ T .top p)
       rg = range-of (phase T s p) (T .top p) (inv .range p) (give 1 i t) was
 
-      so : (n ≤ 1000) × Counts L (s .st) p 1
-      so = subst (Sound L (s .st) p) e (v .sound p)
+      so : (n ≤ 1000) × Counts L (s .statuses) p 1
+      so = subst (Sound L (s .statuses) p) e (v .sound p)
 
-      own : (c : Successor T (view T s) p i t) → Counts L (s .st) (c .rank) (suc i)
-      own c = subst (Sound L (s .st) (c .rank))
-          (only-W5 (s .place (c .rank)) (s .st (T .node (c .rank) (at-level (s .place (c .rank))))) i (c .waits))
+      own : (c : Successor T (view T s) p i t) → Counts L (s .statuses) (c .rank) (suc i)
+      own c = subst (Sound L (s .statuses) (c .rank))
+          (only-W5 (s .place (c .rank)) (s .statuses (T .node (c .rank) (at-level (s .place (c .rank))))) i (c .waits))
           (v .sound (c .rank)) .1
 
-      all : (c : Successor T (view T s) p i t) → Counts L (upd (s .st) (T .node (c .rank) i) n) (c .rank) 1
+      all : (c : Successor T (view T s) p i t) → Counts L (upd (s .statuses) (T .node (c .rank) i) n) (c .rank) 1
       all c j a b = by (cases-order j i)
         where
-          by : (j ≡ i) ⊎ ((j < i) ⊎ (i < j)) → upd (s .st) (T .node (c .rank) i) n (T .node (c .rank) j) ≤ 1000
-          by (inl z) = rw (z, upd-same (s .st) (T .node (c .rank) i) n) (so .0)
+          by : (j ≡ i) ⊎ ((j < i) ⊎ (i < j)) → upd (s .statuses) (T .node (c .rank) i) n (T .node (c .rank) j) ≤ 1000
+          by (inl z) = rw (z, upd-same (s .statuses) (T .node (c .rank) i) n) (so .0)
           by (inr (inl z)) = rw (
-            st-own (c .rank) i n j (c .on) (omega arith) (omega arith),
+            status-own (c .rank) i n j (c .on) (omega arith) (omega arith),
             way-up (c .rank) p i (c .on) (omega (arith, rg)) (c .queue) j a z,
           )
               (so .1 j a (omega (arith, rg)))
-          by (inr (inr z)) = rw (st-own (c .rank) i n j (c .on) (omega arith) (omega arith)) (own c j z b)
+          by (inr (inr z)) = rw (status-own (c .rank) i n j (c .on) (omega arith) (omega arith)) (own c j z b)
 
   fine-U9 : (p i t : ℕ) → s .place p ≡ U9 i t → Fine L (row L s p (U9 i t))
   fine-U9 p i t e = gave p i i t (tell i) (phase-at T s p (U9 i t) e)
       (w5-told i (tell i) (omega (arith, tell-big i)) (tell-big i .1))
       (λ c. (
         c .on,
-        (λ j a b. rw (st-own (c .rank) i (tell i) j (c .on) (omega arith) (omega arith)) (own c j a b)),
-        inr (inl (upd-same (s .st) (T .node (c .rank) i) (tell i))),
+        (λ j a b. rw (status-own (c .rank) i (tell i) j (c .on) (omega arith) (omega arith)) (own c j a b)),
+        inr (inl (upd-same (s .statuses) (T .node (c .rank) i) (tell i))),
       ))
     where
-      own : (c : Successor T (view T s) p i t) → Counts L (s .st) (c .rank) (suc i)
-      own c = subst (Sound L (s .st) (c .rank))
-          (only-W5 (s .place (c .rank)) (s .st (T .node (c .rank) (at-level (s .place (c .rank))))) i (c .waits))
+      own : (c : Successor T (view T s) p i t) → Counts L (s .statuses) (c .rank) (suc i)
+      own c = subst (Sound L (s .statuses) (c .rank))
+          (only-W5 (s .place (c .rank)) (s .statuses (T .node (c .rank) (at-level (s .place (c .rank))))) i (c .waits))
           (v .sound (c .rank)) .1
 
   -- a move that leaves the phase alone
-  quiet : (p : ℕ) (g : Place) (ar de : ℕ → ℕ) → phaseOf g (s .st (T .node p (at-level g))) ≡ phase T s p
-      → Calm (phase T s p) → Sound L (s .st) p g
+  quiet : (p : ℕ) (g : Place) (arrives departs : ℕ → ℕ)
+      → phaseOf g (s .statuses (T .node p (at-level g))) ≡ phase T s p → Calm (phase T s p)
+      → Sound L (s .statuses) p g
       → Fine L (record {
         place = upd (s .place) p g;
-        nx = s .nx;
-        st = s .st;
-        tl = s .tl;
-        ar = ar;
-        de = de;
-        at = s .at;
-        lo = s .lo;
-        hi = s .hi;
+        nexts = s .nexts;
+        statuses = s .statuses;
+        tails = s .tails;
+        arrives = arrives;
+        departs = departs;
+        node-at = s .node-at;
+        head-turn = s .head-turn;
+        next-turn = s .next-turn;
       })
-  quiet p g ar de e c so = moved p g ar de (ap (level (T .top p)) e) (rw e (inv .range p))
+  quiet p g arrives departs e c so = moved p g arrives departs (ap (level (T .top p)) e) (rw e (inv .range p))
       (calm-waits (phase T s p) c)
-      (calm-asks T (prepared (view T s) (phase T (go s p g)) (s .nx)) p (phaseOf g (s .st (T .node p (at-level g))))
-      (rw e c))
+      (calm-asks T (prepared (view T s) (phase T (go s p g)) (s .nexts)) p
+      (phaseOf g (s .statuses (T .node p (at-level g)))) (rw e c))
       so
 
   fine-U8 : (p i : ℕ) → s .place p ≡ U8 i → Fine L (row L s p (U8 i))
-  fine-U8 p i e = by (eqb (s .nx (T .node p i)) 0) refl
+  fine-U8 p i e = by (eqb (s .nexts (T .node p i)) 0) refl
     where
       was : phase T s p ≡ hold i
       was = phase-at T s p (U8 i) e
@@ -511,15 +523,16 @@ module _ (L : Plan) (G : Lawful (L .tree)) (small : (q j : ℕ) → L .cap q j �
       on : On (T .top p) i
       on = range-of (phase T s p) (T .top p) (inv .range p) (hold i) was
 
-      by : (b : Bool) → eqb (s .nx (T .node p i)) 0 ≡ b → Fine L (go s p (cond b (U10 i) (U9 i (s .nx (T .node p i)))))
-      by true z = quiet p (U10 i) (s .ar) (s .de) (sym was) (rw was tt) tt
-      by false z = moved p (U9 i (s .nx (T .node p i))) (s .ar) (s .de) (rw was) (omega (arith, on))
+      by : (b : Bool) → eqb (s .nexts (T .node p i)) 0 ≡ b
+          → Fine L (go s p (cond b (U10 i) (U9 i (s .nexts (T .node p i)))))
+      by true z = quiet p (U10 i) (s .arrives) (s .departs) (sym was) (rw was tt) tt
+      by false z = moved p (U9 i (s .nexts (T .node p i))) (s .arrives) (s .departs) (rw was) (omega (arith, on))
           (λ j k. subst (λ f. Waits f j) was k)
-          (refl, eqb-false (s .nx (T .node p i)) 0 z)
+          (refl, eqb-false (s .nexts (T .node p i)) 0 z)
           tt
 
   fine-U10 : (p i : ℕ) → s .place p ≡ U10 i → Fine L (row L s p (U10 i))
-  fine-U10 p i e = by (eqb (s .tl K) (T .node p i)) refl
+  fine-U10 p i e = by (eqb (s .tails K) (T .node p i)) refl
     where
       K : ℕ
       K = T .elem p i
@@ -530,76 +543,81 @@ module _ (L : Plan) (G : Lawful (L .tree)) (small : (q j : ℕ) → L .cap q j �
       on : On (T .top p) i
       on = range-of (phase T s p) (T .top p) (inv .range p) (hold i) was
 
-      now : phase T (go s p (done L s p i)) p ≡ phaseOf (done L s p i) (s .st (T .node p (at-level (done L s p i))))
+      now : phase T (go s p (done L s p i)) p
+          ≡ phaseOf (done L s p i) (s .statuses (T .node p (at-level (done L s p i))))
       now = phase-now T s p (done L s p i)
 
-      ok : (level (T .top p) (phaseOf (done L s p i) (s .st (T .node p (at-level (done L s p i))))) ≡ suc i)
-          × Calm (phaseOf (done L s p i) (s .st (T .node p (at-level (done L s p i)))))
-          × InRange (T .top p) (phaseOf (done L s p i) (s .st (T .node p (at-level (done L s p i)))))
-      ok = done-ok (T .top p) i on (eqb i (T .top p)) refl (s .st (T .node p (at-level (done L s p i))))
+      ok : (level (T .top p) (phaseOf (done L s p i) (s .statuses (T .node p (at-level (done L s p i))))) ≡ suc i)
+          × Calm (phaseOf (done L s p i) (s .statuses (T .node p (at-level (done L s p i)))))
+          × InRange (T .top p) (phaseOf (done L s p i) (s .statuses (T .node p (at-level (done L s p i)))))
+      ok = done-ok (T .top p) i on (eqb i (T .top p)) refl (s .statuses (T .node p (at-level (done L s p i))))
 
-      by : (b : Bool) → eqb (s .tl K) (T .node p i) ≡ b
+      by : (b : Bool) → eqb (s .tails K) (T .node p i) ≡ b
           → Fine L (cond b (go (free s K) p (done L s p i)) (go s p (U8 i)))
       by true z =
           record {
-            queues = retired T G (view T s) inv p i was (eqb-true (s .tl K) (T .node p i) z)
-                (phase T (go s p (done L s p i))) (upd (s .tl) K 0) (upd (s .lo) K (suc (s .lo K))) (record {
+            queues = retired T G (view T s) inv p i was (eqb-true (s .tails K) (T .node p i) z)
+                (phase T (go s p (done L s p i))) (upd (s .tails) K 0) (upd (s .head-turn) K (suc (s .head-turn K)))
+                (record {
                   giver = rw now (ok .0);
                   calm = rw now (ok .1);
                   in-range = rw now (ok .2);
                   others = phase-other T s p (done L s p i);
-                  zero = upd-same (s .tl) K 0;
-                  tails = λ k ne. upd-other (s .tl) K 0 k ne;
-                  gone = upd-same (s .lo) K (suc (s .lo K));
-                  stay = λ k ne. upd-other (s .lo) K (suc (s .lo K)) k ne;
+                  tail-zero = upd-same (s .tails) K 0;
+                  other-tails = λ k ne. upd-other (s .tails) K 0 k ne;
+                  head-gone = upd-same (s .head-turn) K (suc (s .head-turn K));
+                  stay = λ k ne. upd-other (s .head-turn) K (suc (s .head-turn K)) k ne;
                 });
-            sound =
-                sound-go (s .st) p (done L s p i) (done-sound L (s .st) p i (eqb i (T .top p))) (λ q a. v .sound q);
+            sound = sound-go (s .statuses) p (done L s p i) (done-sound L (s .statuses) p i (eqb i (T .top p)))
+                (λ q a. v .sound q);
           }
-      by false z = quiet p (U8 i) (s .ar) (s .de) (sym was) (rw was tt) tt
+      by false z = quiet p (U8 i) (s .arrives) (s .departs) (sym was) (rw was tt) tt
 
   -- places of one phase, whatever the words
   abbrev At : Phase → ℕ → Place → Type 0
-  At f p g = ((w : ℕ) → phaseOf g w ≡ f) × Sound L (s .st) p g
+  At f p g = ((w : ℕ) → phaseOf g w ≡ f) × Sound L (s .statuses) p g
 
-  to : (f : Phase) → Calm f → (p : ℕ) → phase T s p ≡ f → (g : Place) (ar de : ℕ → ℕ) → At f p g
+  to : (f : Phase) → Calm f → (p : ℕ) → phase T s p ≡ f → (g : Place) (arrives departs : ℕ → ℕ) → At f p g
       → Fine L (record {
         place = upd (s .place) p g;
-        nx = s .nx;
-        st = s .st;
-        tl = s .tl;
-        ar = ar;
-        de = de;
-        at = s .at;
-        lo = s .lo;
-        hi = s .hi;
+        nexts = s .nexts;
+        statuses = s .statuses;
+        tails = s .tails;
+        arrives = arrives;
+        departs = departs;
+        node-at = s .node-at;
+        head-turn = s .head-turn;
+        next-turn = s .next-turn;
       })
-  to f c p was g ar de h = quiet p g ar de (h .0 (s .st (T .node p (at-level g))) ∙ sym was) (rw was c) (h .1)
+  to f c p was g arrives departs h =
+      quiet p g arrives departs (h .0 (s .statuses (T .node p (at-level g))) ∙ sym was) (rw was c) (h .1)
 
   -- while a writer is on its way out: hand over at level i, or go on to g
-  choose : (p i n : ℕ) → phase T s p ≡ hold 1 → On (T .top p) i → Counts L (s .st) p 1 → (g : Place) → At (hold 1) p g
+  choose : (p i n : ℕ) → phase T s p ≡ hold 1 → On (T .top p) i → Counts L (s .statuses) p 1 → (g : Place)
+      → At (hold 1) p g
       → Fine L
       (go s p
-      (cond (eqb (s .nx (T .node p i)) 0) g
-      (cond (ltb n (L .cap p i)) (U3 i (s .nx (T .node p i)) (suc n)) g)))
-  choose p i n was on so g h = by (eqb (s .nx (T .node p i)) 0) (ltb n (L .cap p i)) refl refl
+      (cond (eqb (s .nexts (T .node p i)) 0) g
+      (cond (ltb n (L .cap p i)) (U3 i (s .nexts (T .node p i)) (suc n)) g)))
+  choose p i n was on so g h = by (eqb (s .nexts (T .node p i)) 0) (ltb n (L .cap p i)) refl refl
     where
-      by : (a b : Bool) → eqb (s .nx (T .node p i)) 0 ≡ a → ltb n (L .cap p i) ≡ b
-          → Fine L (go s p (cond a g (cond b (U3 i (s .nx (T .node p i)) (suc n)) g)))
-      by true b x y = to (hold 1) tt p was g (s .ar) (s .de) h
-      by false true x y = moved p (U3 i (s .nx (T .node p i)) (suc n)) (s .ar) (s .de) (rw was) (omega (arith, on))
+      by : (a b : Bool) → eqb (s .nexts (T .node p i)) 0 ≡ a → ltb n (L .cap p i) ≡ b
+          → Fine L (go s p (cond a g (cond b (U3 i (s .nexts (T .node p i)) (suc n)) g)))
+      by true b x y = to (hold 1) tt p was g (s .arrives) (s .departs) h
+      by false true x y = moved p (U3 i (s .nexts (T .node p i)) (suc n)) (s .arrives) (s .departs) (rw was)
+          (omega (arith, on))
           (λ j k. subst (λ f. Waits f j) was k)
-          (refl, eqb-false (s .nx (T .node p i)) 0 x)
+          (refl, eqb-false (s .nexts (T .node p i)) 0 x)
           (omega (arith, ltb-true n (L .cap p i) y, small p i), so)
-      by false false x y = to (hold 1) tt p was g (s .ar) (s .de) h
+      by false false x y = to (hold 1) tt p was g (s .arrives) (s .departs) h
 
   -- the next level up
-  up : (p i : ℕ) → 2 ≤ i → i ≤ T .top p → Counts L (s .st) p 1 → At (hold 1) p (cond (leb i 2) U4 (U1 (pred i)))
+  up : (p i : ℕ) → 2 ≤ i → i ≤ T .top p → Counts L (s .statuses) p 1 → At (hold 1) p (cond (leb i 2) U4 (U1 (pred i)))
   up p i a b so = cond-both (leb i 2) U4 (U1 (pred i)) (At (hold 1) p)
       (λ _. ((λ w. refl), so))
       (λ z. ((λ w. refl), (omega (arith, leb-false i 2 z), omega arith, so)))
 
-  after : (p n : ℕ) → Counts L (s .st) p 1 → (end : Place) (more : ℕ → Place) → At (hold 1) p end
+  after : (p n : ℕ) → Counts L (s .statuses) p 1 → (end : Place) (more : ℕ → Place) → At (hold 1) p end
       → ((k : ℕ) → At (hold 1) p (more k)) → At (hold 1) p (next L s p n end more)
   after p n so end more h m =
       cond-both (ltb (suc n) (L .counters)) (more (suc n)) end (At (hold 1) p) (λ _. m (suc n)) (λ _. h)
@@ -616,60 +634,66 @@ module _ (L : Plan) (G : Lawful (L .tree)) (small : (q j : ℕ) → L .cap q j �
   fine-row p o (W5 i) e = fine-W5 p i e
   fine-row p o (W6 i) e = fine-W6 p i e
   fine-row p o (W7 n) e =
-      let so = subst (Sound L (s .st) p) e (v .sound p) in
-      to (hold 1) tt p (phase-at T s p (W7 n) e) (next L s p n (W8 0) W7) (upd (s .ar) n (s .ar n + 2 ^ 62)) (s .de)
-      (after p n so (W8 0) W7 ((λ w. refl), so) (λ k. ((λ w. refl), so)))
+      let so = subst (Sound L (s .statuses) p) e (v .sound p) in
+      to (hold 1) tt p (phase-at T s p (W7 n) e) (next L s p n (W8 0) W7) (upd (s .arrives) n (s .arrives n + 2 ^ 62))
+      (s .departs) (after p n so (W8 0) W7 ((λ w. refl), so) (λ k. ((λ w. refl), so)))
   fine-row p o (W8 n) e =
-      let so = subst (Sound L (s .st) p) e (v .sound p) in
-      to (hold 1) tt p (phase-at T s p (W8 n) e) (W9 n (s .ar n)) (s .ar) (s .de) ((λ w. refl), so)
+      let so = subst (Sound L (s .statuses) p) e (v .sound p) in
+      to (hold 1) tt p (phase-at T s p (W8 n) e) (W9 n (s .arrives n)) (s .arrives) (s .departs) ((λ w. refl), so)
   fine-row p o (W9 n a) e =
-      let so = subst (Sound L (s .st) p) e (v .sound p) in
-      to (hold 1) tt p (phase-at T s p (W9 n a) e) (cond (eqb a (2 ^ 62 + s .de n)) (next L s p n writes W8) (W8 n))
-      (s .ar) (s .de)
-      (cond-both (eqb a (2 ^ 62 + s .de n)) (next L s p n writes W8) (W8 n) (At (hold 1) p)
+      let so = subst (Sound L (s .statuses) p) e (v .sound p) in
+      to (hold 1) tt p (phase-at T s p (W9 n a) e)
+      (cond (eqb a (2 ^ 62 + s .departs n)) (next L s p n writes W8) (W8 n)) (s .arrives) (s .departs)
+      (cond-both (eqb a (2 ^ 62 + s .departs n)) (next L s p n writes W8) (W8 n) (At (hold 1) p)
       (λ _. after p n so writes W8 ((λ w. refl), so) (λ k. ((λ w. refl), so)))
       (λ _. ((λ w. refl), so)))
   fine-row p o (U1 i) e =
-      let so = subst (Sound L (s .st) p) e (v .sound p) in
-      to (hold 1) tt p (phase-at T s p (U1 i) e) (U2 i (s .st (T .node p i))) (s .ar) (s .de) ((λ w. refl), so)
+      let so = subst (Sound L (s .statuses) p) e (v .sound p) in
+      to (hold 1) tt p (phase-at T s p (U1 i) e) (U2 i (s .statuses (T .node p i))) (s .arrives) (s .departs)
+      ((λ w. refl), so)
   fine-row p o (U2 i n) e =
-      let so = subst (Sound L (s .st) p) e (v .sound p) in
+      let so = subst (Sound L (s .statuses) p) e (v .sound p) in
       choose p i n (phase-at T s p (U2 i n) e) (omega arith) (so .2) (cond (leb i 2) U4 (U1 (pred i)))
       (up p i (so .0) (so .1) (so .2))
   fine-row p o (U3 i t n) e = fine-U3 p i t n e
   fine-row p o U4 e =
-      let so = subst (Sound L (s .st) p) e (v .sound p) in
-      to (hold 1) tt p (phase-at T s p U4 e) (U5 (s .st (T .node p 1))) (s .ar) (s .de) ((λ w. refl), so)
+      let so = subst (Sound L (s .statuses) p) e (v .sound p) in
+      to (hold 1) tt p (phase-at T s p U4 e) (U5 (s .statuses (T .node p 1))) (s .arrives) (s .departs)
+      ((λ w. refl), so)
   fine-row p o (U5 n) e =
-      let so = subst (Sound L (s .st) p) e (v .sound p) in
+      let so = subst (Sound L (s .statuses) p) e (v .sound p) in
       choose p 1 n (phase-at T s p (U5 n) e) o so (U6 0) ((λ w. refl), so)
   fine-row p o (U6 n) e =
-      let so = subst (Sound L (s .st) p) e (v .sound p) in
-      to (hold 1) tt p (phase-at T s p (U6 n) e) (U7 n (s .de n)) (s .ar) (upd (s .de) n 0) ((λ w. refl), so)
+      let so = subst (Sound L (s .statuses) p) e (v .sound p) in
+      to (hold 1) tt p (phase-at T s p (U6 n) e) (U7 n (s .departs n)) (s .arrives) (upd (s .departs) n 0)
+      ((λ w. refl), so)
   fine-row p o (U7 n a) e =
-      let so = subst (Sound L (s .st) p) e (v .sound p) in
-      to (hold 1) tt p (phase-at T s p (U7 n a) e) (next L s p n (U8 1) U6) (upd (s .ar) n (s .ar n - (2 ^ 62 + a)))
-      (s .de) (after p n so (U8 1) U6 ((λ w. refl), tt) (λ k. ((λ w. refl), so)))
+      let so = subst (Sound L (s .statuses) p) e (v .sound p) in
+      to (hold 1) tt p (phase-at T s p (U7 n a) e) (next L s p n (U8 1) U6)
+      (upd (s .arrives) n (s .arrives n - (2 ^ 62 + a))) (s .departs)
+      (after p n so (U8 1) U6 ((λ w. refl), tt) (λ k. ((λ w. refl), so)))
   fine-row p o (U8 i) e = fine-U8 p i e
   fine-row p o (U9 i t) e = fine-U9 p i t e
   fine-row p o (U10 i) e = fine-U10 p i e
-  fine-row p o R1 e = to out tt p (phase-at T s p R1 e) (cond (ltb (s .ar (L .home p)) (L .TR)) reads R2)
-      (upd (s .ar) (L .home p) (suc (s .ar (L .home p)))) (s .de)
-      (either p (ltb (s .ar (L .home p)) (L .TR)) reads R2 ((λ w. refl), tt) ((λ w. refl), tt))
-  fine-row p o R2 e = to out tt p (phase-at T s p R2 e) R3 (upd (s .ar) (L .home p) (pred (s .ar (L .home p))))
-      (s .de) ((λ w. refl), tt)
+  fine-row p o R1 e = to out tt p (phase-at T s p R1 e) (cond (ltb (s .arrives (L .home p)) (L .TR)) reads R2)
+      (upd (s .arrives) (L .home p) (suc (s .arrives (L .home p)))) (s .departs)
+      (either p (ltb (s .arrives (L .home p)) (L .TR)) reads R2 ((λ w. refl), tt) ((λ w. refl), tt))
+  fine-row p o R2 e = to out tt p (phase-at T s p R2 e) R3
+      (upd (s .arrives) (L .home p) (pred (s .arrives (L .home p)))) (s .departs) ((λ w. refl), tt)
   fine-row p o R3 e = to out tt p (phase-at T s p R3 e)
-      (cond (ltb (s .ar (L .home p)) (L .TR)) R1 (cond (leb (2 ^ 62) (s .ar (L .home p))) R3 R4)) (s .ar) (s .de)
-      (either p (ltb (s .ar (L .home p)) (L .TR)) R1 (cond (leb (2 ^ 62) (s .ar (L .home p))) R3 R4) ((λ w. refl), tt)
-      (either p (leb (2 ^ 62) (s .ar (L .home p))) R3 R4 ((λ w. refl), tt) ((λ w. refl), tt)))
-  fine-row p o R4 e = to out tt p (phase-at T s p R4 e) (cond (eqb (s .tl (T .elem p 1)) 0) R5 R3) (s .ar) (s .de)
-      (either p (eqb (s .tl (T .elem p 1)) 0) R5 R3 ((λ w. refl), tt) ((λ w. refl), tt))
-  fine-row p o R5 e =
-      to out tt p (phase-at T s p R5 e) (R6 (s .de (L .home p))) (s .ar) (upd (s .de) (L .home p) 0) ((λ w. refl), tt)
-  fine-row p o (R6 n) e = to out tt p (phase-at T s p (R6 n) e) R3 (upd (s .ar) (L .home p) (s .ar (L .home p) - n))
-      (s .de) ((λ w. refl), tt)
-  fine-row p o R7 e = to out tt p (phase-at T s p R7 e) idle (s .ar)
-      (upd (s .de) (L .home p) (suc (s .de (L .home p)))) ((λ w. refl), tt)
+      (cond (ltb (s .arrives (L .home p)) (L .TR)) R1 (cond (leb (2 ^ 62) (s .arrives (L .home p))) R3 R4))
+      (s .arrives) (s .departs)
+      (either p (ltb (s .arrives (L .home p)) (L .TR)) R1 (cond (leb (2 ^ 62) (s .arrives (L .home p))) R3 R4)
+      ((λ w. refl), tt)
+      (either p (leb (2 ^ 62) (s .arrives (L .home p))) R3 R4 ((λ w. refl), tt) ((λ w. refl), tt)))
+  fine-row p o R4 e = to out tt p (phase-at T s p R4 e) (cond (eqb (s .tails (T .elem p 1)) 0) R5 R3) (s .arrives)
+      (s .departs) (either p (eqb (s .tails (T .elem p 1)) 0) R5 R3 ((λ w. refl), tt) ((λ w. refl), tt))
+  fine-row p o R5 e = to out tt p (phase-at T s p R5 e) (R6 (s .departs (L .home p))) (s .arrives)
+      (upd (s .departs) (L .home p) 0) ((λ w. refl), tt)
+  fine-row p o (R6 n) e = to out tt p (phase-at T s p (R6 n) e) R3
+      (upd (s .arrives) (L .home p) (s .arrives (L .home p) - n)) (s .departs) ((λ w. refl), tt)
+  fine-row p o R7 e = to out tt p (phase-at T s p R7 e) idle (s .arrives)
+      (upd (s .departs) (L .home p) (suc (s .departs (L .home p)))) ((λ w. refl), tt)
   fine-row p o writes e = v
   fine-row p o reads e = v
 
@@ -677,24 +701,24 @@ module _ (L : Plan) (G : Lawful (L .tree)) (small : (q j : ℕ) → L .cap q j �
   pub fine-ask-write : (p : ℕ) → On (T .top p) 1 → s .place p ≡ idle → Fine L (go s p (W1 (T .top p)))
   fine-ask-write p o e =
       let was : phase T s p ≡ out = phase-at T s p idle e in
-      moved p (W1 (T .top p)) (s .ar) (s .de) (rw was) (omega arith)
+      moved p (W1 (T .top p)) (s .arrives) (s .departs) (rw was) (omega arith)
       (λ j k. subst (λ f. Waits f j) was k)
       tt
       (λ j a b. absurd (omega arith))
 
   pub fine-ask-read : (p : ℕ) → s .place p ≡ idle → Fine L (go s p R1)
-  fine-ask-read p e = to out tt p (phase-at T s p idle e) R1 (s .ar) (s .de) ((λ w. refl), tt)
+  fine-ask-read p e = to out tt p (phase-at T s p idle e) R1 (s .arrives) (s .departs) ((λ w. refl), tt)
 
   pub fine-leave-write : (p : ℕ) → s .place p ≡ writes → Fine L (go s p (cond (leb (T .top p) 1) U4 (U1 (T .top p))))
   fine-leave-write p e =
-      let so = subst (Sound L (s .st) p) e (v .sound p) in
-      to (hold 1) tt p (phase-at T s p writes e) (cond (leb (T .top p) 1) U4 (U1 (T .top p))) (s .ar) (s .de)
+      let so = subst (Sound L (s .statuses) p) e (v .sound p) in
+      to (hold 1) tt p (phase-at T s p writes e) (cond (leb (T .top p) 1) U4 (U1 (T .top p))) (s .arrives) (s .departs)
       (cond-both (leb (T .top p) 1) U4 (U1 (T .top p)) (At (hold 1) p)
       (λ _. ((λ w. refl), so))
       (λ z. ((λ w. refl), (leb-false (T .top p) 1 z, omega arith, so))))
 
   pub fine-leave-read : (p : ℕ) → s .place p ≡ reads → Fine L (go s p R7)
-  fine-leave-read p e = to out tt p (phase-at T s p reads e) R7 (s .ar) (s .de) ((λ w. refl), tt)
+  fine-leave-read p e = to out tt p (phase-at T s p reads e) R7 (s .arrives) (s .departs) ((λ w. refl), tt)
 
   -- writers exclude writers: element 1 is everyone's
   pub one-writer : (p r : ℕ) → On (T .top p) 1 → On (T .top r) 1 → T .elem p 1 ≡ T .elem r 1 → s .place p ≡ writes

@@ -23,18 +23,18 @@ unfolding upd
 upd-other f a v b h = rw (ne-eqb b a h)
 
 -- THE FRAME: states with the same values have the same invariant
-pub framed : (T : Tree) (s s′ : State) → ((p : ℕ) → s .ph p ≡ s′ .ph p) → ((h : ℕ) → s .nx h ≡ s′ .nx h)
-    → ((k : ℕ) → s .tl k ≡ s′ .tl k) → ((k a : ℕ) → s .at k a ≡ s′ .at k a) → ((k : ℕ) → s .lo k ≡ s′ .lo k)
-    → ((k : ℕ) → s .hi k ≡ s′ .hi k) → Inv T s → Inv T s′
+pub framed : (T : Tree) (s s′ : State) → ((p : ℕ) → s .phases p ≡ s′ .phases p) → ((h : ℕ) → s .nexts h ≡ s′ .nexts h)
+    → ((k : ℕ) → s .tails k ≡ s′ .tails k) → ((k a : ℕ) → s .node-at k a ≡ s′ .node-at k a)
+    → ((k : ℕ) → s .head-turn k ≡ s′ .head-turn k) → ((k : ℕ) → s .next-turn k ≡ s′ .next-turn k) → Inv T s → Inv T s′
 framed T s s′ a b c d e f v = subst (Inv T)
     (λ i.
     record {
-      ph = λ p. a p i;
-      nx = λ h. b h i;
-      tl = λ k. c k i;
-      at = λ k n. d k n i;
-      lo = λ k. e k i;
-      hi = λ k. f k i;
+      phases = λ p. a p i;
+      nexts = λ h. b h i;
+      tails = λ k. c k i;
+      node-at = λ k n. d k n i;
+      head-turn = λ k. e k i;
+      next-turn = λ k. f k i;
     })
     v
 
@@ -95,16 +95,16 @@ w5-levels top i false false = omega arith
 pub w5-level : (top i w : ℕ) → level top (phaseOf (W5 i) w) ≤ suc i
 w5-level top i w = w5-levels top i (eqb w WAIT) (leb w 1000)
 
-module _ (L : Plan) (small : (q j : ℕ) → L .cap q j ≤ 1000) (st st′ : ℕ → ℕ) (q : ℕ) where
+module _ (L : Plan) (small : (q j : ℕ) → L .cap q j ≤ 1000) (statuses st′ : ℕ → ℕ) (q : ℕ) where
   -- the statuses that a rank's place speaks of are as they were
   abbrev Same : ℕ → Type 0
-  Same h = (j : ℕ) → On (L .tree .top q) j → h ≤ suc j → st′ (L .tree .node q j) ≡ st (L .tree .node q j)
+  Same h = (j : ℕ) → On (L .tree .top q) j → h ≤ suc j → st′ (L .tree .node q j) ≡ statuses (L .tree .node q j)
 
-  counts-same : (h from : ℕ) → h ≤ suc from → 1 ≤ from → Same h → Counts L st q from → Counts L st′ q from
+  counts-same : (h from : ℕ) → h ≤ suc from → 1 ≤ from → Same h → Counts L statuses q from → Counts L st′ q from
   counts-same h from l o e c j a b = rw (e j (omega arith) (omega arith)) (c j a b)
 
-  sound-w5 : (i : ℕ) → Same (level (L .tree .top q) (phaseOf (W5 i) (st (L .tree .node q i)))) → Sound L st q (W5 i)
-      → Sound L st′ q (W5 i)
+  sound-w5 : (i : ℕ) → Same (level (L .tree .top q) (phaseOf (W5 i) (statuses (L .tree .node q i))))
+      → Sound L statuses q (W5 i) → Sound L st′ q (W5 i)
   sound-w5 i e c = (
     c .0,
     counts-same (level (L .tree .top q) (phaseOf (W5 i) w)) (suc i) (omega (arith, lv)) (omega arith) e (c .1),
@@ -112,12 +112,12 @@ module _ (L : Plan) (small : (q j : ℕ) → L .cap q j ≤ 1000) (st st′ : �
   )
     where
       w : ℕ
-      w = st (L .tree .node q i)
+      w = statuses (L .tree .node q i)
 
       lv : level (L .tree .top q) (phaseOf (W5 i) w) ≤ suc i
       lv = w5-level (L .tree .top q) i w
 
-      by : (w ≡ WAIT) ⊎ ((w ≡ tell i) ⊎ Counts L st q 1)
+      by : (w ≡ WAIT) ⊎ ((w ≡ tell i) ⊎ Counts L statuses q 1)
           → (st′ (L .tree .node q i) ≡ WAIT) ⊎ ((st′ (L .tree .node q i) ≡ tell i) ⊎ Counts L st′ q 1)
       by (inl z) = inl (e i (c .0) lv ∙ z)
       by (inr (inl z)) = inr (inl (e i (c .0) lv ∙ z))
@@ -126,8 +126,9 @@ module _ (L : Plan) (small : (q j : ℕ) → L .cap q j ≤ 1000) (st st′ : �
           ap (level (L .tree .top q)) (w5-count i w (omega (arith, z i (c .0 .from) (c .0 .upto), small i))) in
           inr (inr (counts-same (level (L .tree .top q) (phaseOf (W5 i) w)) 1 (omega arith) (omega arith) e z))
 
-  pub sound-same : (f : Place) → Same (level (L .tree .top q) (phaseOf f (st (L .tree .node q (at-level f)))))
-      → Sound L st q f → InRange (L .tree .top q) (phaseOf f (st (L .tree .node q (at-level f)))) → Sound L st′ q f
+  pub sound-same : (f : Place) → Same (level (L .tree .top q) (phaseOf f (statuses (L .tree .node q (at-level f)))))
+      → Sound L statuses q f → InRange (L .tree .top q) (phaseOf f (statuses (L .tree .node q (at-level f))))
+      → Sound L st′ q f
   sound-same idle e c o = tt
   sound-same (W1 i) e c o = counts-same (suc i) (suc i) (omega arith) (omega arith) e c
   sound-same (W2 i) e c o = counts-same (suc i) (suc i) (omega arith) (omega arith) e c

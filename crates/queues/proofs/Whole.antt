@@ -10,7 +10,7 @@ use Rattle.std.proofs.shelf.Tests.{leb-true, leb-false, ltb-true, ltb-false}
 use Rattle.queues.specs.Machine.{Tree, Lawful, On, Phase, wait, hold, give, level, InRange, Waits, Inv}
 use Rattle.queues.specs.Rows.{Place, idle, W1, W2, W3, W4, W5, W6, W7, W8, W9, U1, U2, U3, U4, U5, U6, U7, U8, U9}
 use Rattle.queues.specs.Rows.{U10, R1, R2, R3, R4, R5, R6, R7, writes, reads, WAIT, tell, Plan, Lock, upd, phaseOf}
-use Rattle.queues.specs.Rows.{at-level, phase, view, Sound, Fine, go, put-st, free, done, next, row}
+use Rattle.queues.specs.Rows.{at-level, phase, view, Sound, Fine, go, put-status, free, done, next, row}
 use Rattle.queues.specs.Counters.{total, pick, Load, none, trying, inside, leaving, carrying, clearing, tries, clears}
 use Rattle.queues.specs.Counters.{Gate, shut, raising, checking, reading, wide, lowering, Marks, Keeps, Tally, F}
 use Rattle.queues.specs.Counters.{Count, Counted}
@@ -22,7 +22,7 @@ use Rattle.queues.proofs.Sum.{pick-same, pick-other, total-part, total-same, t
 use Rattle.queues.proofs.View.{upd-same, upd-other, w5-level, tell-big}
 use Rattle.queues.proofs.Counters.{Local, Shift, Drains, drained, Enters, entered, nobody-in}
 use Rattle.queues.proofs.Gates.{Flips, flipped, Trades, traded}
-use Rattle.queues.proofs.Steps.{phase-at, st-other, only-W5, fine-row, fine-ask-write, fine-ask-read}
+use Rattle.queues.proofs.Steps.{phase-at, status-other, only-W5, fine-row, fine-ask-write, fine-ask-read}
 use Rattle.queues.proofs.Steps.{fine-leave-write, fine-leave-read, fine-start, one-writer}
 use Rattle.queues.specs.Claim.{fresh-lock, Sensible, Jobs, start, stepped, asked-write, asked-read, left-write}
 use Rattle.queues.specs.Claim.{left-read, Exclusion}
@@ -100,22 +100,23 @@ gate-phase top writes w r = inr (refl, r)
 gate-phase top reads w r = inl refl
 
 pub gate-at : (T : Tree) (s : Lock) (p : ℕ) (f : Place) → s .place p ≡ f
-    → gate T s p ≡ gateOf f (s .st (T .node p (at-level f)))
-gate-at T s p f e = ap (λ g. gateOf g (s .st (T .node p (at-level g)))) e
+    → gate T s p ≡ gateOf f (s .statuses (T .node p (at-level f)))
+gate-at T s p f e = ap (λ g. gateOf g (s .statuses (T .node p (at-level g)))) e
 
 pub gate-now : (T : Tree) (s : Lock) (p : ℕ) (f : Place)
-    → gate T (go s p f) p ≡ gateOf f (s .st (T .node p (at-level f)))
+    → gate T (go s p f) p ≡ gateOf f (s .statuses (T .node p (at-level f)))
 gate-now T s p f = gate-at T (go s p f) p f (upd-same (s .place) p f)
 
 pub gate-other : (T : Tree) (s : Lock) (p : ℕ) (f : Place) (q : ℕ) → q ≢ p → gate T (go s p f) q ≡ gate T s q
-gate-other T s p f q a = ap (λ g. gateOf g (s .st (T .node q (at-level g)))) (upd-other (s .place) p f q a)
+gate-other T s p f q a = ap (λ g. gateOf g (s .statuses (T .node q (at-level g)))) (upd-other (s .place) p f q a)
 
 -- tallies with the same values
 pub tallied : (P C TR : ℕ) (s s′ : Tally) → ((p : ℕ) → s .load p ≡ s′ .load p) → ((p : ℕ) → s .gate p ≡ s′ .gate p)
-    → ((c : ℕ) → s .ar c ≡ s′ .ar c) → ((c : ℕ) → s .de c ≡ s′ .de c) → ((c : ℕ) → s .bit c ≡ s′ .bit c)
-    → Counted P C TR s → Counted P C TR s′
+    → ((c : ℕ) → s .arrives c ≡ s′ .arrives c) → ((c : ℕ) → s .departs c ≡ s′ .departs c)
+    → ((c : ℕ) → s .bit c ≡ s′ .bit c) → Counted P C TR s → Counted P C TR s′
 tallied P C TR s s′ a b c d e v = subst (Counted P C TR)
-    (λ i. record { load = λ p. a p i; gate = λ p. b p i; ar = λ n. c n i; de = λ n. d n i; bit = λ n. e n i })
+    (λ i.
+    record { load = λ p. a p i; gate = λ p. b p i; arrives = λ n. c n i; departs = λ n. d n i; bit = λ n. e n i })
     v
 
 module _ (P : ℕ) (L : Plan) (G : Lawful (L .tree)) (small : (q j : ℕ) → L .cap q j ≤ 1000) (cap : L .TR ≤ F)
@@ -137,49 +138,49 @@ module _ (P : ℕ) (L : Plan) (G : Lawful (L .tree)) (small : (q j : ℕ) → L 
       (λ (z : gate T s q ≡ shut). z)
       (λ (z : (level (T .top q) (phase T s q) ≡ 1) × On (T .top q) 1).
       absurd (a (one-holder T G (view T s) inv q p 1 (z .1) o (omega arith) l (root q p (z .1) o))))
-      (gate-phase (T .top q) (s .place q) (s .st (T .node q (at-level (s .place q)))) (inv .range q))
+      (gate-phase (T .top q) (s .place q) (s .statuses (T .node q (at-level (s .place q)))) (inv .range q))
 
-  gate-st : (o i u : ℕ) → On (T .top o) i → level (T .top o) (phase T s o) ≤ suc i → (q : ℕ) → q ≢ o
-      → gate T (put-st s (T .node o i) u) q ≡ gate T s q
-  gate-st o i u on l q a = gate-same (s .place q) (s .st (T .node q (at-level (s .place q))))
-      (upd (s .st) (T .node o i) u (T .node q (at-level (s .place q))))
+  gate-status : (o i u : ℕ) → On (T .top o) i → level (T .top o) (phase T s o) ≤ suc i → (q : ℕ) → q ≢ o
+      → gate T (put-status s (T .node o i) u) q ≡ gate T s q
+  gate-status o i u on l q a = gate-same (s .place q) (s .statuses (T .node q (at-level (s .place q))))
+      (upd (s .statuses) (T .node o i) u (T .node q (at-level (s .place q))))
       (λ j e.
       subst
-      (λ f. upd (s .st) (T .node o i) u (T .node q (at-level f)) ≡ s .st (T .node q (at-level f)))
+      (λ f. upd (s .statuses) (T .node o i) u (T .node q (at-level f)) ≡ s .statuses (T .node q (at-level f)))
       (sym e)
-      (st-other L G small s (v .fine) o i u on l q j a (subst (Sound L (s .st) q) e (v .fine .sound q) .0)
-      (rw (phase-at T s q (W5 j) e) (w5-level (T .top q) j (s .st (T .node q j))))))
+      (status-other L G small s (v .fine) o i u on l q j a (subst (Sound L (s .statuses) q) e (v .fine .sound q) .0)
+      (rw (phase-at T s q (W5 j) e) (w5-level (T .top q) j (s .statuses (T .node q j))))))
 
   -- rows that leave loads and gates alone
-  still : (st : ℕ → ℕ) (p : ℕ) (g : Place) → gateOf g (st (T .node p (at-level g))) ≡ gate T s p
+  still : (statuses : ℕ → ℕ) (p : ℕ) (g : Place) → gateOf g (statuses (T .node p (at-level g))) ≡ gate T s p
       → loadOf (L .home p) g ≡ loadOf (L .home p) (s .place p)
-      → ((q : ℕ) → q ≢ p → gateOf (s .place q) (st (T .node q (at-level (s .place q)))) ≡ gate T s q)
+      → ((q : ℕ) → q ≢ p → gateOf (s .place q) (statuses (T .node q (at-level (s .place q)))) ≡ gate T s q)
       → Counted P C (L .TR)
       (tally L
       (record {
         place = upd (s .place) p g;
-        nx = s .nx;
-        st = st;
-        tl = s .tl;
-        ar = s .ar;
-        de = s .de;
-        at = s .at;
-        lo = s .lo;
-        hi = s .hi;
+        nexts = s .nexts;
+        statuses = statuses;
+        tails = s .tails;
+        arrives = s .arrives;
+        departs = s .departs;
+        node-at = s .node-at;
+        head-turn = s .head-turn;
+        next-turn = s .next-turn;
       })
       bit)
-  still st p g x y z = tallied P C (L .TR) (tally L s bit)
+  still statuses p g x y z = tallied P C (L .TR) (tally L s bit)
       (tally L
       (record {
         place = upd (s .place) p g;
-        nx = s .nx;
-        st = st;
-        tl = s .tl;
-        ar = s .ar;
-        de = s .de;
-        at = s .at;
-        lo = s .lo;
-        hi = s .hi;
+        nexts = s .nexts;
+        statuses = statuses;
+        tails = s .tails;
+        arrives = s .arrives;
+        departs = s .departs;
+        node-at = s .node-at;
+        head-turn = s .head-turn;
+        next-turn = s .next-turn;
       })
       bit)
       (split p
@@ -187,7 +188,7 @@ module _ (P : ℕ) (L : Plan) (G : Lawful (L .tree)) (small : (q j : ℕ) → L 
       (rw (upd-same (s .place) p g) (sym y))
       (λ q a. rw (upd-other (s .place) p g q a)))
       (split p
-      (λ q. gate T s q ≡ gateOf (upd (s .place) p g q) (st (T .node q (at-level (upd (s .place) p g q)))))
+      (λ q. gate T s q ≡ gateOf (upd (s .place) p g q) (statuses (T .node q (at-level (upd (s .place) p g q)))))
       (rw (upd-same (s .place) p g) (sym x))
       (λ q a. rw (upd-other (s .place) p g q a) (sym (z q a))))
       (λ c. refl)
@@ -209,7 +210,7 @@ module _ (P : ℕ) (L : Plan) (G : Lawful (L .tree)) (small : (q j : ℕ) → L 
 
   -- what a rank carries is in the counter
   there-is : (p c : ℕ) → On P p → c < C → (l : Load) → load p ≡ l
-      → (F * bit c + tries l c + Counters.reads l c + clears l c ≤ s .ar c) × (clears l c ≤ s .ar c)
+      → (F * bit c + tries l c + Counters.reads l c + clears l c ≤ s .arrives c) × (clears l c ≤ s .arrives c)
   there-is p c on lt l e =
       let o = v .counted .each c lt in
       let a = total-part P (λ p. tries (load p) c) p on in
@@ -218,47 +219,53 @@ module _ (P : ℕ) (L : Plan) (G : Lawful (L .tree)) (small : (q j : ℕ) → L 
       rw (← e) (omega (arith, o .sum), omega (arith, o .sum))
 
   -- a shift from the place f to the place g
-  shift : (p c : ℕ) (f g : Place) (ar de : ℕ → ℕ) → s .place p ≡ f
-      → Local (loadOf (L .home p) f) (loadOf (L .home p) g) c → ((d : ℕ) → d ≢ c → ar d ≡ s .ar d)
-      → ((d : ℕ) → d ≢ c → de d ≡ s .de d) → Shift (tally L s bit) p c (load′ p g) ar de
-  shift p c f g ar de e lc x y =
-      record { others = load-other p g; local = rw (load-now p g, e) lc; ar-other = x; de-other = y }
+  shift : (p c : ℕ) (f g : Place) (arrives departs : ℕ → ℕ) → s .place p ≡ f
+      → Local (loadOf (L .home p) f) (loadOf (L .home p) g) c → ((d : ℕ) → d ≢ c → arrives d ≡ s .arrives d)
+      → ((d : ℕ) → d ≢ c → departs d ≡ s .departs d) → Shift (tally L s bit) p c (load′ p g) arrives departs
+  shift p c f g arrives departs e lc x y =
+      record { others = load-other p g; local = rw (load-now p g, e) lc; arrive-other = x; depart-other = y }
 
   -- and the tally after it, where the gates are as they were
-  after : (p : ℕ) (g : Place) (ar de : ℕ → ℕ) → gateOf g (s .st (T .node p (at-level g))) ≡ gate T s p
-      → Counted P C (L .TR) (record { load = load′ p g; gate = gate T s; ar = ar; de = de; bit = bit })
+  after : (p : ℕ) (g : Place) (arrives departs : ℕ → ℕ) → gateOf g (s .statuses (T .node p (at-level g))) ≡ gate T s p
+      → Counted P C (L .TR) (record {
+        load = load′ p g;
+        gate = gate T s;
+        arrives = arrives;
+        departs = departs;
+        bit = bit;
+      })
       → Counted P C (L .TR)
       (tally L
       (record {
         place = upd (s .place) p g;
-        nx = s .nx;
-        st = s .st;
-        tl = s .tl;
-        ar = ar;
-        de = de;
-        at = s .at;
-        lo = s .lo;
-        hi = s .hi;
+        nexts = s .nexts;
+        statuses = s .statuses;
+        tails = s .tails;
+        arrives = arrives;
+        departs = departs;
+        node-at = s .node-at;
+        head-turn = s .head-turn;
+        next-turn = s .next-turn;
       })
       bit)
-  after p g ar de x w = tallied P C (L .TR)
-      (record { load = load′ p g; gate = gate T s; ar = ar; de = de; bit = bit })
+  after p g arrives departs x w = tallied P C (L .TR)
+      (record { load = load′ p g; gate = gate T s; arrives = arrives; departs = departs; bit = bit })
       (tally L
       (record {
         place = upd (s .place) p g;
-        nx = s .nx;
-        st = s .st;
-        tl = s .tl;
-        ar = ar;
-        de = de;
-        at = s .at;
-        lo = s .lo;
-        hi = s .hi;
+        nexts = s .nexts;
+        statuses = s .statuses;
+        tails = s .tails;
+        arrives = arrives;
+        departs = departs;
+        node-at = s .node-at;
+        head-turn = s .head-turn;
+        next-turn = s .next-turn;
       })
       bit)
       (λ q. refl)
       (split p
-      (λ q. gate T s q ≡ gateOf (upd (s .place) p g q) (s .st (T .node q (at-level (upd (s .place) p g q)))))
+      (λ q. gate T s q ≡ gateOf (upd (s .place) p g q) (s .statuses (T .node q (at-level (upd (s .place) p g q)))))
       (rw (upd-same (s .place) p g) (sym x))
       (λ q a. rw (upd-other (s .place) p g q a)))
       (λ c. refl)
@@ -266,34 +273,35 @@ module _ (P : ℕ) (L : Plan) (G : Lawful (L .tree)) (small : (q j : ℕ) → L 
       (λ c. refl)
       w
 
-  drain : (p c : ℕ) (f g : Place) (ar de : ℕ → ℕ) → On P p → s .place p ≡ f
-      → gateOf g (s .st (T .node p (at-level g))) ≡ gate T s p → Local (loadOf (L .home p) f) (loadOf (L .home p) g) c
-      → ((d : ℕ) → d ≢ c → ar d ≡ s .ar d) → ((d : ℕ) → d ≢ c → de d ≡ s .de d)
-      → ar c + s .de c + tries (loadOf (L .home p) f) c + Counters.reads (loadOf (L .home p) f) c
+  drain : (p c : ℕ) (f g : Place) (arrives departs : ℕ → ℕ) → On P p → s .place p ≡ f
+      → gateOf g (s .statuses (T .node p (at-level g))) ≡ gate T s p
+      → Local (loadOf (L .home p) f) (loadOf (L .home p) g) c → ((d : ℕ) → d ≢ c → arrives d ≡ s .arrives d)
+      → ((d : ℕ) → d ≢ c → departs d ≡ s .departs d)
+      → arrives c + s .departs c + tries (loadOf (L .home p) f) c + Counters.reads (loadOf (L .home p) f) c
       + clears (loadOf (L .home p) f) c
-      ≡ s .ar c + de c + tries (loadOf (L .home p) g) c + Counters.reads (loadOf (L .home p) g) c
+      ≡ s .arrives c + departs c + tries (loadOf (L .home p) g) c + Counters.reads (loadOf (L .home p) g) c
       + clears (loadOf (L .home p) g) c
-      → de c + Counters.reads (loadOf (L .home p) g) c + clears (loadOf (L .home p) g) c
-      ≤ s .de c + Counters.reads (loadOf (L .home p) f) c + clears (loadOf (L .home p) f) c
-      → de c + Counters.reads (loadOf (L .home p) g) c ≤ s .de c + Counters.reads (loadOf (L .home p) f) c
+      → departs c + Counters.reads (loadOf (L .home p) g) c + clears (loadOf (L .home p) g) c
+      ≤ s .departs c + Counters.reads (loadOf (L .home p) f) c + clears (loadOf (L .home p) f) c
+      → departs c + Counters.reads (loadOf (L .home p) g) c ≤ s .departs c + Counters.reads (loadOf (L .home p) f) c
       → ((d : ℕ) → loadOf (L .home p) g ≢ inside d)
       → Counted P C (L .TR)
       (tally L
       (record {
         place = upd (s .place) p g;
-        nx = s .nx;
-        st = s .st;
-        tl = s .tl;
-        ar = ar;
-        de = de;
-        at = s .at;
-        lo = s .lo;
-        hi = s .hi;
+        nexts = s .nexts;
+        statuses = s .statuses;
+        tails = s .tails;
+        arrives = arrives;
+        departs = departs;
+        node-at = s .node-at;
+        head-turn = s .head-turn;
+        next-turn = s .next-turn;
       })
       bit)
-  drain p c f g ar de on e gt lc x y fl fa fr ou = after p g ar de gt
-      (drained P C (L .TR) (tally L s bit) (v .counted) p c on (load′ p g) ar de (record {
-        shift = shift p c f g ar de e lc x y;
+  drain p c f g arrives departs on e gt lc x y fl fa fr ou = after p g arrives departs gt
+      (drained P C (L .TR) (tally L s bit) (v .counted) p c on (load′ p g) arrives departs (record {
+        shift = shift p c f g arrives departs e lc x y;
         flow = rw (load-now p g, e) fl;
         fall = rw (load-now p g, e) fa;
         fall-reads = rw (load-now p g, e) fr;
@@ -308,10 +316,10 @@ module _ (P : ℕ) (L : Plan) (G : Lawful (L .tree)) (small : (q j : ℕ) → L 
       let c = L .home p in
       let k = pick-same c 1 in
       let h = there-is p c on (homes p) (trying c) (ap (loadOf c) e) in
-      let u = upd-same (s .ar) c (pred (s .ar c)) in
-      drain p c R2 R3 (upd (s .ar) c (pred (s .ar c))) (s .de) on e (sym (gate-at T s p R2 e))
+      let u = upd-same (s .arrives) c (pred (s .arrives c)) in
+      drain p c R2 R3 (upd (s .arrives) c (pred (s .arrives c))) (s .departs) on e (sym (gate-at T s p R2 e))
       (λ d ne. (sym (pick-other c 1 d (λ z. ne (sym z))), refl, refl))
-      (λ d ne. upd-other (s .ar) c (pred (s .ar c)) d ne)
+      (λ d ne. upd-other (s .arrives) c (pred (s .arrives c)) d ne)
       (λ d ne. refl)
       (omega arith)
       (omega arith)
@@ -321,13 +329,13 @@ module _ (P : ℕ) (L : Plan) (G : Lawful (L .tree)) (small : (q j : ℕ) → L 
   count-R5 : (p : ℕ) → On P p → s .place p ≡ R5 → Counted P C (L .TR) (tally L (row L s p R5) bit)
   count-R5 p on e =
       let c = L .home p in
-      let n = s .de c in
+      let n = s .departs c in
       let k = pick-same c n in
-      let u = upd-same (s .de) c 0 in
-      drain p c R5 (R6 n) (s .ar) (upd (s .de) c 0) on e (sym (gate-at T s p R5 e))
+      let u = upd-same (s .departs) c 0 in
+      drain p c R5 (R6 n) (s .arrives) (upd (s .departs) c 0) on e (sym (gate-at T s p R5 e))
       (λ d ne. (refl, pick-other c n d (λ z. ne (sym z)), refl))
       (λ d ne. refl)
-      (λ d ne. upd-other (s .de) c 0 d ne)
+      (λ d ne. upd-other (s .departs) c 0 d ne)
       (omega arith)
       (omega arith)
       (omega arith)
@@ -338,10 +346,10 @@ module _ (P : ℕ) (L : Plan) (G : Lawful (L .tree)) (small : (q j : ℕ) → L 
       let c = L .home p in
       let k = pick-same c n in
       let h = there-is p c on (homes p) (carrying c n) (ap (loadOf c) e) in
-      let u = upd-same (s .ar) c (s .ar c - n) in
-      drain p c (R6 n) R3 (upd (s .ar) c (s .ar c - n)) (s .de) on e (sym (gate-at T s p (R6 n) e))
+      let u = upd-same (s .arrives) c (s .arrives c - n) in
+      drain p c (R6 n) R3 (upd (s .arrives) c (s .arrives c - n)) (s .departs) on e (sym (gate-at T s p (R6 n) e))
       (λ d ne. (refl, sym (pick-other c n d (λ z. ne (sym z))), refl))
-      (λ d ne. upd-other (s .ar) c (s .ar c - n) d ne)
+      (λ d ne. upd-other (s .arrives) c (s .arrives c - n) d ne)
       (λ d ne. refl)
       (omega arith)
       (omega arith)
@@ -352,11 +360,11 @@ module _ (P : ℕ) (L : Plan) (G : Lawful (L .tree)) (small : (q j : ℕ) → L 
   count-R7 p on e =
       let c = L .home p in
       let k = pick-same c 1 in
-      let u = upd-same (s .de) c (suc (s .de c)) in
-      drain p c R7 idle (s .ar) (upd (s .de) c (suc (s .de c))) on e (sym (gate-at T s p R7 e))
+      let u = upd-same (s .departs) c (suc (s .departs c)) in
+      drain p c R7 idle (s .arrives) (upd (s .departs) c (suc (s .departs c))) on e (sym (gate-at T s p R7 e))
       (λ d ne. (refl, sym (pick-other c 1 d (λ z. ne (sym z))), refl))
       (λ d ne. refl)
-      (λ d ne. upd-other (s .de) c (suc (s .de c)) d ne)
+      (λ d ne. upd-other (s .departs) c (suc (s .departs c)) d ne)
       (omega arith)
       (omega arith)
       (omega arith)
@@ -365,7 +373,7 @@ module _ (P : ℕ) (L : Plan) (G : Lawful (L .tree)) (small : (q j : ℕ) → L 
   count-leave : (p : ℕ) → On P p → s .place p ≡ reads → Counted P C (L .TR) (tally L (go s p R7) bit)
   count-leave p on e =
       let c = L .home p in
-      drain p c reads R7 (s .ar) (s .de) on e (sym (gate-at T s p reads e))
+      drain p c reads R7 (s .arrives) (s .departs) on e (sym (gate-at T s p reads e))
       (λ d ne. (refl, refl, refl))
       (λ d ne. refl)
       (λ d ne. refl)
@@ -375,51 +383,53 @@ module _ (P : ℕ) (L : Plan) (G : Lawful (L .tree)) (small : (q j : ℕ) → L 
       (λ d e. let z : _≡_ {A = ℕ} 0 1 = cc in omega arith)
 
   count-R1 : (p : ℕ) → On P p → s .place p ≡ R1 → Counted P C (L .TR) (tally L (row L s p R1) bit)
-  count-R1 p on e = by (ltb (s .ar c) (L .TR)) refl
+  count-R1 p on e = by (ltb (s .arrives c) (L .TR)) refl
     where
       c : ℕ
       c = L .home p
 
-      ar : ℕ → ℕ
-      ar = upd (s .ar) (L .home p) (suc (s .ar (L .home p)))
+      arrives : ℕ → ℕ
+      arrives = upd (s .arrives) (L .home p) (suc (s .arrives (L .home p)))
 
       k : pick (L .home p) 1 (L .home p) ≡ 1
       k = pick-same (L .home p) 1
 
-      u : upd (s .ar) (L .home p) (suc (s .ar (L .home p))) (L .home p) ≡ suc (s .ar (L .home p))
-      u = upd-same (s .ar) (L .home p) (suc (s .ar (L .home p)))
+      u : upd (s .arrives) (L .home p) (suc (s .arrives (L .home p))) (L .home p) ≡ suc (s .arrives (L .home p))
+      u = upd-same (s .arrives) (L .home p) (suc (s .arrives (L .home p)))
 
-      by : (b : Bool) → ltb (s .ar (L .home p)) (L .TR) ≡ b
+      by : (b : Bool) → ltb (s .arrives (L .home p)) (L .TR) ≡ b
           → Counted P C (L .TR)
           (tally L
           (record {
             place = upd (s .place) p (cond b reads R2);
-            nx = s .nx;
-            st = s .st;
-            tl = s .tl;
-            ar = upd (s .ar) (L .home p) (suc (s .ar (L .home p)));
-            de = s .de;
-            at = s .at;
-            lo = s .lo;
-            hi = s .hi;
+            nexts = s .nexts;
+            statuses = s .statuses;
+            tails = s .tails;
+            arrives = upd (s .arrives) (L .home p) (suc (s .arrives (L .home p)));
+            departs = s .departs;
+            node-at = s .node-at;
+            head-turn = s .head-turn;
+            next-turn = s .next-turn;
           })
           bit)
-      by true z = after p reads (upd (s .ar) (L .home p) (suc (s .ar (L .home p)))) (s .de) (sym (gate-at T s p R1 e))
+      by true z = after p reads (upd (s .arrives) (L .home p) (suc (s .arrives (L .home p)))) (s .departs)
+          (sym (gate-at T s p R1 e))
           (entered P C (L .TR) cap (tally L s bit) (v .counted) p (L .home p) (homes p) on (load′ p reads)
-          (upd (s .ar) (L .home p) (suc (s .ar (L .home p)))) (record {
-            shift = shift p (L .home p) R1 reads (upd (s .ar) (L .home p) (suc (s .ar (L .home p)))) (s .de) e
+          (upd (s .arrives) (L .home p) (suc (s .arrives (L .home p)))) (record {
+            shift = shift p (L .home p) R1 reads (upd (s .arrives) (L .home p) (suc (s .arrives (L .home p))))
+                (s .departs) e
                 (λ d ne. (refl, pick-other (L .home p) 1 d (λ z. ne (sym z)), refl))
-                (λ d ne. upd-other (s .ar) (L .home p) (suc (s .ar (L .home p))) d ne)
+                (λ d ne. upd-other (s .arrives) (L .home p) (suc (s .arrives (L .home p))) d ne)
                 (λ d ne. refl);
             before = ap (loadOf (L .home p)) e;
             after = load-now p reads;
             word = u;
-            room = ltb-true (s .ar (L .home p)) (L .TR) z;
+            room = ltb-true (s .arrives (L .home p)) (L .TR) z;
           }))
-      by false z = drain p (L .home p) R1 R2 (upd (s .ar) (L .home p) (suc (s .ar (L .home p)))) (s .de) on e
-          (sym (gate-at T s p R1 e))
+      by false z = drain p (L .home p) R1 R2 (upd (s .arrives) (L .home p) (suc (s .arrives (L .home p))))
+          (s .departs) on e (sym (gate-at T s p R1 e))
           (λ d ne. (pick-other (L .home p) 1 d (λ z. ne (sym z)), refl, refl))
-          (λ d ne. upd-other (s .ar) (L .home p) (suc (s .ar (L .home p))) d ne)
+          (λ d ne. upd-other (s .arrives) (L .home p) (suc (s .arrives (L .home p))) d ne)
           (λ d ne. refl)
           (omega (arith, k, u))
           (omega arith)
@@ -428,62 +438,62 @@ module _ (P : ℕ) (L : Plan) (G : Lawful (L .tree)) (small : (q j : ℕ) → L 
 
   count-U6 : (p n : ℕ) → On P p → s .place p ≡ U6 n → Counted P C (L .TR) (tally L (row L s p (U6 n)) bit)
   count-U6 p n on e =
-      let m = s .de n in
+      let m = s .departs n in
       let k = pick-same n m in
-      let u = upd-same (s .de) n 0 in
-      drain p n (U6 n) (U7 n m) (s .ar) (upd (s .de) n 0) on e (sym (gate-at T s p (U6 n) e))
+      let u = upd-same (s .departs) n 0 in
+      drain p n (U6 n) (U7 n m) (s .arrives) (upd (s .departs) n 0) on e (sym (gate-at T s p (U6 n) e))
       (λ d ne. (refl, refl, pick-other n m d (λ z. ne (sym z))))
       (λ d ne. refl)
-      (λ d ne. upd-other (s .de) n 0 d ne)
+      (λ d ne. upd-other (s .departs) n 0 d ne)
       (omega arith)
       (omega arith)
       (omega arith)
       (λ d e. let z : _≡_ {A = ℕ} 0 1 = cc in omega arith)
 
   -- a writer's row at the counter k, from f to g
-  flip : (p k : ℕ) (f g : Place) (ar bit′ : ℕ → ℕ) → On P p → On (T .top p) 1 → s .place p ≡ f
+  flip : (p k : ℕ) (f g : Place) (arrives bit′ : ℕ → ℕ) → On P p → On (T .top p) 1 → s .place p ≡ f
       → level (T .top p) (phase T s p) ≤ 1 → Local (loadOf (L .home p) f) (loadOf (L .home p) g) k
-      → ((d : ℕ) → d ≢ k → ar d ≡ s .ar d) → ((d : ℕ) → d ≢ k → bit′ d ≡ bit d) → bit′ k ≤ 1
-      → ar k + F * bit k + s .de k + tries (loadOf (L .home p) f) k + Counters.reads (loadOf (L .home p) f) k
-      + clears (loadOf (L .home p) f) k
-      ≡ s .ar k + F * bit′ k + s .de k + tries (loadOf (L .home p) g) k + Counters.reads (loadOf (L .home p) g) k
-      + clears (loadOf (L .home p) g) k
+      → ((d : ℕ) → d ≢ k → arrives d ≡ s .arrives d) → ((d : ℕ) → d ≢ k → bit′ d ≡ bit d) → bit′ k ≤ 1
+      → arrives k + F * bit k + s .departs k + tries (loadOf (L .home p) f) k
+      + Counters.reads (loadOf (L .home p) f) k + clears (loadOf (L .home p) f) k
+      ≡ s .arrives k + F * bit′ k + s .departs k + tries (loadOf (L .home p) g) k
+      + Counters.reads (loadOf (L .home p) g) k + clears (loadOf (L .home p) g) k
       → Counters.reads (loadOf (L .home p) g) k + clears (loadOf (L .home p) g) k
       ≤ Counters.reads (loadOf (L .home p) f) k + clears (loadOf (L .home p) f) k → (h : Gate)
-      → gateOf g (s .st (T .node p (at-level g))) ≡ h → ((c : ℕ) → c < C → Marks h c → bit′ c ≡ 1)
+      → gateOf g (s .statuses (T .node p (at-level g))) ≡ h → ((c : ℕ) → c < C → Marks h c → bit′ c ≡ 1)
       → ((c : ℕ) → c < C → bit′ c ≡ 1 → Marks h c)
       → ((c : ℕ) → c < C → Keeps h c → (q : ℕ) → On P q → load′ p g q ≢ inside c)
-      → ((j n : ℕ) → h ≡ reading j n → F + s .de j + total P (λ q. Counters.reads (load′ p g q) j) ≤ n)
+      → ((j n : ℕ) → h ≡ reading j n → F + s .departs j + total P (λ q. Counters.reads (load′ p g q) j) ≤ n)
       → Counted P C (L .TR)
       (tally L
       (record {
         place = upd (s .place) p g;
-        nx = s .nx;
-        st = s .st;
-        tl = s .tl;
-        ar = ar;
-        de = s .de;
-        at = s .at;
-        lo = s .lo;
-        hi = s .hi;
+        nexts = s .nexts;
+        statuses = s .statuses;
+        tails = s .tails;
+        arrives = arrives;
+        departs = s .departs;
+        node-at = s .node-at;
+        head-turn = s .head-turn;
+        next-turn = s .next-turn;
       })
       bit′)
-  flip p k f g ar bit′ on o e lv lc x y bs fl fa h gh mk sd kp ss =
+  flip p k f g arrives bit′ on o e lv lc x y bs fl fa h gh mk sd kp ss =
       let s₁ : Lock =
       record {
         place = s .place;
-        nx = s .nx;
-        st = s .st;
-        tl = s .tl;
-        ar = ar;
-        de = s .de;
-        at = s .at;
-        lo = s .lo;
-        hi = s .hi;
+        nexts = s .nexts;
+        statuses = s .statuses;
+        tails = s .tails;
+        arrives = arrives;
+        departs = s .departs;
+        node-at = s .node-at;
+        head-turn = s .head-turn;
+        next-turn = s .next-turn;
       } in
       let now : gate T (go s₁ p g) p ≡ h = gate-now T s₁ p g ∙ gh in
       flipped P C (L .TR) (tally L s bit) (v .counted) p k on (tally L (go s₁ p g) bit′) (record {
-        shift = shift p k f g ar (s .de) e lc x (λ d ne. refl);
+        shift = shift p k f g arrives (s .departs) e lc x (λ d ne. refl);
         bit-other = y;
         bit-small = bs;
         flow = rw (load-now p g, e) fl;
@@ -518,10 +528,10 @@ module _ (P : ℕ) (L : Plan) (G : Lawful (L .tree)) (small : (q j : ℕ) → L 
   -- rows W8, W9, U5, and W6 at level 1: no word changes
   turn : (p : ℕ) (f g : Place) → On P p → On (T .top p) 1 → s .place p ≡ f → level (T .top p) (phase T s p) ≤ 1
       → loadOf (L .home p) f ≡ none → loadOf (L .home p) g ≡ none → (h : Gate)
-      → gateOf g (s .st (T .node p (at-level g))) ≡ h → ((c : ℕ) → c < C → Marks h c → Marks (gate T s p) c)
+      → gateOf g (s .statuses (T .node p (at-level g))) ≡ h → ((c : ℕ) → c < C → Marks h c → Marks (gate T s p) c)
       → ((c : ℕ) → c < C → Marks (gate T s p) c → Marks h c)
       → ((c : ℕ) → c < C → Keeps h c → (q : ℕ) → On P q → load q ≢ inside c)
-      → ((j n : ℕ) → h ≡ reading j n → F + s .de j + total P (λ q. Counters.reads (load q) j) ≤ n)
+      → ((j n : ℕ) → h ≡ reading j n → F + s .departs j + total P (λ q. Counters.reads (load q) j) ≤ n)
       → Counted P C (L .TR) (tally L (go s p g) bit)
   turn p f g on o e lv lf lg h gh mk sd kp ss =
       let same : (q : ℕ) → load′ p g q ≡ load q =
@@ -531,7 +541,7 @@ module _ (P : ℕ) (L : Plan) (G : Lawful (L .tree)) (small : (q j : ℕ) → L 
       (load-other p g) in
       ⊎-elim
       (λ (z : 0 < C).
-      flip p 0 f g (s .ar) bit on o e lv
+      flip p 0 f g (s .arrives) bit on o e lv
       (λ d ne. rw (lf, lg) (refl, refl, refl))
       (λ d ne. refl)
       (λ d ne. refl)
@@ -556,28 +566,29 @@ module _ (P : ℕ) (L : Plan) (G : Lawful (L .tree)) (small : (q j : ℕ) → L 
 
   level-1 : (p : ℕ) (f : Place) → s .place p ≡ f → ((w : ℕ) → phaseOf f w ≡ hold 1)
       → level (T .top p) (phase T s p) ≤ 1
-  level-1 p f e h = rw (phase-at T s p f e, h (s .st (T .node p (at-level f)))) (omega arith)
+  level-1 p f e h = rw (phase-at T s p f e, h (s .statuses (T .node p (at-level f)))) (omega arith)
 
   count-W8 : (p k : ℕ) → On P p → On (T .top p) 1 → k < C → s .place p ≡ W8 k
       → Counted P C (L .TR) (tally L (row L s p (W8 k)) bit)
   count-W8 p k on o l e =
       let g = gate-at T s p (W8 k) e in
-      turn p (W8 k) (W9 k (s .ar k)) on o e (level-1 p (W8 k) e (λ w. refl)) refl refl (reading k (s .ar k)) refl
+      turn p (W8 k) (W9 k (s .arrives k)) on o e (level-1 p (W8 k) e (λ w. refl)) refl refl (reading k (s .arrives k))
+      refl
       (λ c l w. rw g tt)
       (λ c l w. tt)
       (λ c m w. v .counted .kept p c m (rw g w))
       (λ j n w.
       let a : k ≡ j = cc in
-      let b : s .ar k ≡ n = cc in
+      let b : s .arrives k ≡ n = cc in
       let z : bit k ≡ 1 = v .counted .marked p k l (rw g tt) in
       subst
-      (λ j. F + s .de j + total P (λ q. Counters.reads (load q) j) ≤ n)
+      (λ j. F + s .departs j + total P (λ q. Counters.reads (load q) j) ≤ n)
       a
       (omega (arith, v .counted .each k l .sum)))
 
   count-W9 : (p k n : ℕ) → On P p → On (T .top p) 1 → k < C → s .place p ≡ W9 k n
       → Counted P C (L .TR) (tally L (row L s p (W9 k n)) bit)
-  count-W9 p k n on o l e = by (eqb n (2 ^ 62 + s .de k)) (ltb (suc k) C) refl refl
+  count-W9 p k n on o l e = by (eqb n (2 ^ 62 + s .departs k)) (ltb (suc k) C) refl refl
     where
       g : gate T s p ≡ reading k n
       g = gate-at T s p (W9 k n) e
@@ -585,7 +596,7 @@ module _ (P : ℕ) (L : Plan) (G : Lawful (L .tree)) (small : (q j : ℕ) → L 
       old : (c : ℕ) → c < C → c < k → (q : ℕ) → On P q → load q ≢ inside c
       old c m w = v .counted .kept p c m (rw g w)
 
-      new : n ≡ 2 ^ 62 + s .de k → (c : ℕ) → c < C → c ≤ k → (q : ℕ) → On P q → load q ≢ inside c
+      new : n ≡ 2 ^ 62 + s .departs k → (c : ℕ) → c < C → c ≤ k → (q : ℕ) → On P q → load q ≢ inside c
       new z c m w = ⊎-elim
           (λ (y : c ≡ k).
           subst
@@ -595,18 +606,18 @@ module _ (P : ℕ) (L : Plan) (G : Lawful (L .tree)) (small : (q j : ℕ) → L 
           (λ (y : c ≡ k → ⊥). old c m (omega arith))
           (cases-eq c k)
 
-      by : (a b : Bool) → eqb n (2 ^ 62 + s .de k) ≡ a → ltb (suc k) C ≡ b
+      by : (a b : Bool) → eqb n (2 ^ 62 + s .departs k) ≡ a → ltb (suc k) C ≡ b
           → Counted P C (L .TR) (tally L (go s p (cond a (cond b (W8 (suc k)) writes) (W8 k))) bit)
       by true true x y = turn p (W9 k n) (W8 (suc k)) on o e (level-1 p (W9 k n) e (λ w. refl)) refl refl
           (checking (suc k)) refl
           (λ c m w. rw g tt)
           (λ c m w. tt)
-          (λ c m w. new (eqb-true n (2 ^ 62 + s .de k) x) c m (omega arith))
+          (λ c m w. new (eqb-true n (2 ^ 62 + s .departs k) x) c m (omega arith))
           (λ j i w. absurd (let z : _≡_ {A = ℕ} 0 1 = cc in omega arith))
       by true false x y = turn p (W9 k n) writes on o e (level-1 p (W9 k n) e (λ w. refl)) refl refl wide refl
           (λ c m w. rw g tt)
           (λ c m w. tt)
-          (λ c m w. new (eqb-true n (2 ^ 62 + s .de k) x) c m (omega (arith, ltb-false (suc k) C y)))
+          (λ c m w. new (eqb-true n (2 ^ 62 + s .departs k) x) c m (omega (arith, ltb-false (suc k) C y)))
           (λ j i w. absurd (let z : _≡_ {A = ℕ} 0 1 = cc in omega arith))
       by false b x y = turn p (W9 k n) (W8 k) on o e (level-1 p (W9 k n) e (λ w. refl)) refl refl (checking k) refl
           (λ c m w. rw g tt)
@@ -648,29 +659,29 @@ module _ (P : ℕ) (L : Plan) (G : Lawful (L .tree)) (small : (q j : ℕ) → L 
           omega arith)
           (cases-eq c k)
 
-      at : (q : Place) (h : Gate) → loadOf (L .home p) q ≡ none → gateOf q (s .st (T .node p (at-level q))) ≡ h
+      at : (q : Place) (h : Gate) → loadOf (L .home p) q ≡ none → gateOf q (s .statuses (T .node p (at-level q))) ≡ h
           → ((c : ℕ) → c < C → Marks h c → c < suc k) → ((c : ℕ) → c < C → c < suc k → Marks h c)
           → ((c : ℕ) → Keeps h c → ⊥) → ((j n : ℕ) → h ≡ reading j n → ⊥)
           → Counted P C (L .TR)
           (tally L
           (record {
             place = upd (s .place) p q;
-            nx = s .nx;
-            st = s .st;
-            tl = s .tl;
-            ar = upd (s .ar) k (s .ar k + 2 ^ 62);
-            de = s .de;
-            at = s .at;
-            lo = s .lo;
-            hi = s .hi;
+            nexts = s .nexts;
+            statuses = s .statuses;
+            tails = s .tails;
+            arrives = upd (s .arrives) k (s .arrives k + 2 ^ 62);
+            departs = s .departs;
+            node-at = s .node-at;
+            head-turn = s .head-turn;
+            next-turn = s .next-turn;
           })
           (upd bit k 1))
-      at q h lq gq a b c d = flip p k (W7 k) q (upd (s .ar) k (s .ar k + 2 ^ 62)) (upd bit k 1) on o e lv
+      at q h lq gq a b c d = flip p k (W7 k) q (upd (s .arrives) k (s .arrives k + 2 ^ 62)) (upd bit k 1) on o e lv
           (λ d ne. rw lq (refl, refl, refl))
-          (λ d ne. upd-other (s .ar) k (s .ar k + 2 ^ 62) d ne)
+          (λ d ne. upd-other (s .arrives) k (s .arrives k + 2 ^ 62) d ne)
           (λ d ne. upd-other bit k 1 d ne)
           (omega (arith, up))
-          (rw lq (omega (arith, up, down, upd-same (s .ar) k (s .ar k + 2 ^ 62))))
+          (rw lq (omega (arith, up, down, upd-same (s .arrives) k (s .arrives k + 2 ^ 62))))
           (rw lq (omega arith))
           h
           gq
@@ -684,14 +695,14 @@ module _ (P : ℕ) (L : Plan) (G : Lawful (L .tree)) (small : (q j : ℕ) → L 
           (tally L
           (record {
             place = upd (s .place) p (cond b (W7 (suc k)) (W8 0));
-            nx = s .nx;
-            st = s .st;
-            tl = s .tl;
-            ar = upd (s .ar) k (s .ar k + 2 ^ 62);
-            de = s .de;
-            at = s .at;
-            lo = s .lo;
-            hi = s .hi;
+            nexts = s .nexts;
+            statuses = s .statuses;
+            tails = s .tails;
+            arrives = upd (s .arrives) k (s .arrives k + 2 ^ 62);
+            departs = s .departs;
+            node-at = s .node-at;
+            head-turn = s .head-turn;
+            next-turn = s .next-turn;
           })
           (upd bit k 1))
       by true z = at (W7 (suc k)) (raising (suc k)) refl refl
@@ -718,7 +729,7 @@ module _ (P : ℕ) (L : Plan) (G : Lawful (L .tree)) (small : (q j : ℕ) → L 
       stood : bit k ≡ 1
       stood = v .counted .marked p k l (rw g (omega arith))
 
-      has : (F * bit k + 0 + 0 + pick k n k ≤ s .ar k) × (pick k n k ≤ s .ar k)
+      has : (F * bit k + 0 + 0 + pick k n k ≤ s .arrives k) × (pick k n k ≤ s .arrives k)
       has = there-is p k on l (clearing k n) (ap (loadOf (L .home p)) e)
 
       low : upd bit k 0 k ≡ 0
@@ -735,29 +746,38 @@ module _ (P : ℕ) (L : Plan) (G : Lawful (L .tree)) (small : (q j : ℕ) → L 
           omega arith)
           (cases-eq c k)
 
-      at : (q : Place) (h : Gate) → loadOf (L .home p) q ≡ none → gateOf q (s .st (T .node p (at-level q))) ≡ h
+      at : (q : Place) (h : Gate) → loadOf (L .home p) q ≡ none → gateOf q (s .statuses (T .node p (at-level q))) ≡ h
           → ((c : ℕ) → c < C → Marks h c → suc k ≤ c) → ((c : ℕ) → c < C → suc k ≤ c → Marks h c)
           → ((c : ℕ) → Keeps h c → ⊥) → ((j n : ℕ) → h ≡ reading j n → ⊥)
           → Counted P C (L .TR)
           (tally L
           (record {
             place = upd (s .place) p q;
-            nx = s .nx;
-            st = s .st;
-            tl = s .tl;
-            ar = upd (s .ar) k (s .ar k - (2 ^ 62 + n));
-            de = s .de;
-            at = s .at;
-            lo = s .lo;
-            hi = s .hi;
+            nexts = s .nexts;
+            statuses = s .statuses;
+            tails = s .tails;
+            arrives = upd (s .arrives) k (s .arrives k - (2 ^ 62 + n));
+            departs = s .departs;
+            node-at = s .node-at;
+            head-turn = s .head-turn;
+            next-turn = s .next-turn;
           })
           (upd bit k 0))
-      at q h lq gq a b c d = flip p k (U7 k n) q (upd (s .ar) k (s .ar k - (2 ^ 62 + n))) (upd bit k 0) on o e lv
+      at q h lq gq a b c d = flip p k (U7 k n) q (upd (s .arrives) k (s .arrives k - (2 ^ 62 + n))) (upd bit k 0) on o
+          e lv
           (λ d ne. rw lq (refl, refl, sym (pick-other k n d (λ z. ne (sym z)))))
-          (λ d ne. upd-other (s .ar) k (s .ar k - (2 ^ 62 + n)) d ne)
+          (λ d ne. upd-other (s .arrives) k (s .arrives k - (2 ^ 62 + n)) d ne)
           (λ d ne. upd-other bit k 0 d ne)
           (omega (arith, low))
-          (rw lq (omega (arith, low, stood, has, pick-same k n, upd-same (s .ar) k (s .ar k - (2 ^ 62 + n)))))
+          (rw lq
+          (omega (
+            arith,
+            low,
+            stood,
+            has,
+            pick-same k n,
+            upd-same (s .arrives) k (s .arrives k - (2 ^ 62 + n)),
+          )))
           (rw lq (omega arith))
           h
           gq
@@ -771,14 +791,14 @@ module _ (P : ℕ) (L : Plan) (G : Lawful (L .tree)) (small : (q j : ℕ) → L 
           (tally L
           (record {
             place = upd (s .place) p (cond b (U6 (suc k)) (U8 1));
-            nx = s .nx;
-            st = s .st;
-            tl = s .tl;
-            ar = upd (s .ar) k (s .ar k - (2 ^ 62 + n));
-            de = s .de;
-            at = s .at;
-            lo = s .lo;
-            hi = s .hi;
+            nexts = s .nexts;
+            statuses = s .statuses;
+            tails = s .tails;
+            arrives = upd (s .arrives) k (s .arrives k - (2 ^ 62 + n));
+            departs = s .departs;
+            node-at = s .node-at;
+            head-turn = s .head-turn;
+            next-turn = s .next-turn;
           })
           (upd bit k 0))
       by true z = at (U6 (suc k)) (lowering (suc k)) refl refl
@@ -794,20 +814,20 @@ module _ (P : ℕ) (L : Plan) (G : Lawful (L .tree)) (small : (q j : ℕ) → L 
 
   -- rows that leave the rank's load and gate as they were
   abbrev Plain : ℕ → Place → Place → Type 0
-  Plain p f g = (gateOf g (s .st (T .node p (at-level g))) ≡ gateOf f (s .st (T .node p (at-level f))))
+  Plain p f g = (gateOf g (s .statuses (T .node p (at-level g))) ≡ gateOf f (s .statuses (T .node p (at-level f))))
       × (loadOf (L .home p) g ≡ loadOf (L .home p) f)
 
   plain : (p : ℕ) (f g : Place) → s .place p ≡ f → Plain p f g → Counted P C (L .TR) (tally L (go s p g) bit)
   plain p f g e h =
-      still (s .st) p g (h .0 ∙ sym (gate-at T s p f e)) (h .1 ∙ sym (ap (loadOf (L .home p)) e)) (λ q a. refl)
+      still (s .statuses) p g (h .0 ∙ sym (gate-at T s p f e)) (h .1 ∙ sym (ap (loadOf (L .home p)) e)) (λ q a. refl)
 
   owned : (p i u : ℕ) (f g : Place) → s .place p ≡ f → On (T .top p) i → level (T .top p) (phase T s p) ≤ suc i
-      → gateOf g (upd (s .st) (T .node p i) u (T .node p (at-level g))) ≡ gateOf f (s .st (T .node p (at-level f)))
-      → loadOf (L .home p) g ≡ loadOf (L .home p) f
-      → Counted P C (L .TR) (tally L (go (put-st s (T .node p i) u) p g) bit)
-  owned p i u f g e on lv x y = still (upd (s .st) (T .node p i) u) p g (x ∙ sym (gate-at T s p f e))
+      → gateOf g (upd (s .statuses) (T .node p i) u (T .node p (at-level g)))
+      ≡ gateOf f (s .statuses (T .node p (at-level f))) → loadOf (L .home p) g ≡ loadOf (L .home p) f
+      → Counted P C (L .TR) (tally L (go (put-status s (T .node p i) u) p g) bit)
+  owned p i u f g e on lv x y = still (upd (s .statuses) (T .node p i) u) p g (x ∙ sym (gate-at T s p f e))
       (y ∙ sym (ap (loadOf (L .home p)) e))
-      (λ q a. gate-st p i u on lv q a)
+      (λ q a. gate-status p i u on lv q a)
 
   count-W6 : (p i : ℕ) → On P p → s .place p ≡ W6 i → Counted P C (L .TR) (tally L (row L s p (W6 i)) bit)
   count-W6 p i onp e = by (leb 2 i) refl
@@ -822,18 +842,18 @@ module _ (P : ℕ) (L : Plan) (G : Lawful (L .tree)) (small : (q j : ℕ) → L 
       lv = ap (level (T .top p)) was
 
       by : (b : Bool) → leb 2 i ≡ b
-          → Counted P C (L .TR) (tally L (go (put-st s (T .node p i) 0) p (cond b (W1 (pred i)) (W7 0))) bit)
+          → Counted P C (L .TR) (tally L (go (put-status s (T .node p i) 0) p (cond b (W1 (pred i)) (W7 0))) bit)
       by true z = owned p i 0 (W6 i) (W1 (pred i)) e on (omega (arith, lv)) refl refl
       by false z = tallied P C (L .TR) (tally L (go s p (W7 0)) bit)
-          (tally L (go (put-st s (T .node p i) 0) p (W7 0)) bit)
+          (tally L (go (put-status s (T .node p i) 0) p (W7 0)) bit)
           (λ q. refl)
           (split p
-          (λ q. gate T (go s p (W7 0)) q ≡ gate T (go (put-st s (T .node p i) 0) p (W7 0)) q)
-          (gate-now T s p (W7 0) ∙ sym (gate-now T (put-st s (T .node p i) 0) p (W7 0)))
+          (λ q. gate T (go s p (W7 0)) q ≡ gate T (go (put-status s (T .node p i) 0) p (W7 0)) q)
+          (gate-now T s p (W7 0) ∙ sym (gate-now T (put-status s (T .node p i) 0) p (W7 0)))
           (λ q a.
           gate-other T s p (W7 0) q a
-          ∙ (sym (gate-st p i 0 on (omega (arith, lv)) q a)
-          ∙ sym (gate-other T (put-st s (T .node p i) 0) p (W7 0) q a))))
+          ∙ (sym (gate-status p i 0 on (omega (arith, lv)) q a)
+          ∙ sym (gate-other T (put-status s (T .node p i) 0) p (W7 0) q a))))
           (λ c. refl)
           (λ c. refl)
           (λ c. refl)
@@ -848,7 +868,7 @@ module _ (P : ℕ) (L : Plan) (G : Lawful (L .tree)) (small : (q j : ℕ) → L 
   count-W5 p i e = by (eqb w WAIT) (leb w 1000) (eqb w (tell i)) refl refl
     where
       w : ℕ
-      w = s .st (T .node p i)
+      w = s .statuses (T .node p i)
 
       by : (a b c : Bool) → eqb w WAIT ≡ a → leb w 1000 ≡ b
           → Counted P C (L .TR) (tally L (cond a s (cond b (go s p writes) (cond c (go s p (W6 i)) s))) bit)
@@ -863,10 +883,10 @@ module _ (P : ℕ) (L : Plan) (G : Lawful (L .tree)) (small : (q j : ℕ) → L 
     n = successor T G (view T s) inv p h i t was
 
     abbrev s₁ : Lock
-    s₁ = put-st s (T .node (n .rank) i) u
+    s₁ = put-status s (T .node (n .rank) i) u
 
     at-r : s .place (n .rank) ≡ W5 i
-    at-r = only-W5 (s .place (n .rank)) (s .st (T .node (n .rank) (at-level (s .place (n .rank))))) i (n .waits)
+    at-r = only-W5 (s .place (n .rank)) (s .statuses (T .node (n .rank) (at-level (s .place (n .rank))))) i (n .waits)
 
     r≢p : n .rank ≢ p
     r≢p z = subst (λ f. Waits f i) (sym (n .waits) ∙ (ap (phase T s) z ∙ was)) refl
@@ -880,14 +900,14 @@ module _ (P : ℕ) (L : Plan) (G : Lawful (L .tree)) (small : (q j : ℕ) → L 
         (λ g. (w : ℕ) → gateOf g w ≡ shut)
         (λ _ w. refl)
         (λ _ w. refl)
-        (s₁ .st (T .node p (at-level (done L s p i))))
+        (s₁ .statuses (T .node p (at-level (done L s p i))))
 
     gate-r : gate T (go s₁ p (done L s p i)) (n .rank) ≡ gateOf (W5 i) u
     gate-r = gate-other T s₁ p (done L s p i) (n .rank) r≢p
-        ∙ (gate-at T s₁ (n .rank) (W5 i) at-r ∙ ap (gateOf (W5 i)) (upd-same (s .st) (T .node (n .rank) i) u))
+        ∙ (gate-at T s₁ (n .rank) (W5 i) at-r ∙ ap (gateOf (W5 i)) (upd-same (s .statuses) (T .node (n .rank) i) u))
 
     gate-o : (q : ℕ) → q ≢ p → q ≢ n .rank → gate T (go s₁ p (done L s p i)) q ≡ gate T s q
-    gate-o q a b = gate-other T s₁ p (done L s p i) q a ∙ gate-st (n .rank) i u (n .on) lv q b
+    gate-o q a b = gate-other T s₁ p (done L s p i) q a ∙ gate-status (n .rank) i u (n .on) lv q b
 
     loads : loadOf (L .home p) f ≡ none → (q : ℕ) → load q ≡ load′ p (done L s p i) q
     loads z = split p
@@ -905,28 +925,28 @@ module _ (P : ℕ) (L : Plan) (G : Lawful (L .tree)) (small : (q j : ℕ) → L 
   count-U3 p i t u o e =
       let was : phase T s p ≡ give 1 i t = phase-at T s p (U3 i t u) e in
       let m = n p 1 i t u (U3 i t u) e was in
-      let so = subst (Sound L (s .st) p) e (v .fine .sound p) in
+      let so = subst (Sound L (s .statuses) p) e (v .fine .sound p) in
       let wd : gateOf (W5 i) u ≡ wide =
       rw (ne-eqb u WAIT (omega (arith, so .0, small i)), le-leb u 1000 (omega (arith, so .0, small i))) in
       subst
-      (λ y. Counted P C (L .TR) (tally L (go (put-st s y u) p (done L s p i)) bit))
+      (λ y. Counted P C (L .TR) (tally L (go (put-status s y u) p (done L s p i)) bit))
       (sym (m .target))
       (tallied P C (L .TR)
       (record {
         load = load;
-        gate = gate T (go (put-st s (T .node (m .rank) i) u) p (done L s p i));
-        ar = s .ar;
-        de = s .de;
+        gate = gate T (go (put-status s (T .node (m .rank) i) u) p (done L s p i));
+        arrives = s .arrives;
+        departs = s .departs;
         bit = bit;
       })
-      (tally L (go (put-st s (T .node (m .rank) i) u) p (done L s p i)) bit)
+      (tally L (go (put-status s (T .node (m .rank) i) u) p (done L s p i)) bit)
       (loads p 1 i t u (U3 i t u) e was refl)
       (λ q. refl)
       (λ c. refl)
       (λ c. refl)
       (λ c. refl)
       (traded P C (L .TR) (tally L s bit) (v .counted) p (m .rank)
-      (gate T (go (put-st s (T .node (m .rank) i) u) p (done L s p i))) (record {
+      (gate T (go (put-status s (T .node (m .rank) i) u) p (done L s p i))) (record {
         was = gate-at T s p (U3 i t u) e;
         alone = alone p o (rw was (omega arith));
         gives = gate-p p 1 i t u (U3 i t u) e was;
@@ -949,14 +969,14 @@ module _ (P : ℕ) (L : Plan) (G : Lawful (L .tree)) (small : (q j : ℕ) → L 
       (λ (z : (level (T .top (m .rank)) (phase T s (m .rank)) ≡ 1) × On (T .top (m .rank)) 1).
       absurd (omega arith))
       (gate-phase (T .top (m .rank)) (s .place (m .rank))
-      (s .st (T .node (m .rank) (at-level (s .place (m .rank))))) (inv .range (m .rank))) in
+      (s .statuses (T .node (m .rank) (at-level (s .place (m .rank))))) (inv .range (m .rank))) in
       subst
-      (λ y. Counted P C (L .TR) (tally L (go (put-st s y u) p (done L s p i)) bit))
+      (λ y. Counted P C (L .TR) (tally L (go (put-status s y u) p (done L s p i)) bit))
       (sym (m .target))
-      (tallied P C (L .TR) (tally L s bit) (tally L (go (put-st s (T .node (m .rank) i) u) p (done L s p i)) bit)
+      (tallied P C (L .TR) (tally L s bit) (tally L (go (put-status s (T .node (m .rank) i) u) p (done L s p i)) bit)
       (loads p i i t u (U9 i t) e was refl)
       (split₂ p (m .rank)
-      (λ q. gate T s q ≡ gate T (go (put-st s (T .node (m .rank) i) u) p (done L s p i)) q)
+      (λ q. gate T s q ≡ gate T (go (put-status s (T .node (m .rank) i) u) p (done L s p i)) q)
       (gate-at T s p (U9 i t) e ∙ sym (gate-p p i i t u (U9 i t) e was))
       (before ∙ (sym told ∙ sym (gate-r p i i t u (U9 i t) e was)))
       (λ q a b. sym (gate-o p i i t u (U9 i t) e was q a b)))
@@ -971,7 +991,7 @@ module _ (P : ℕ) (L : Plan) (G : Lawful (L .tree)) (small : (q j : ℕ) → L 
 
   count-U5 : (p n : ℕ) → On P p → On (T .top p) 1 → s .place p ≡ U5 n
       → Counted P C (L .TR) (tally L (row L s p (U5 n)) bit)
-  count-U5 p n onp o e = by (eqb (s .nx (T .node p 1)) 0) (ltb n (L .cap p 1))
+  count-U5 p n onp o e = by (eqb (s .nexts (T .node p 1)) 0) (ltb n (L .cap p 1))
     where
       g : gate T s p ≡ wide
       g = gate-at T s p (U5 n) e
@@ -985,13 +1005,13 @@ module _ (P : ℕ) (L : Plan) (G : Lawful (L .tree)) (small : (q j : ℕ) → L 
 
       by : (a b : Bool)
           → Counted P C (L .TR)
-          (tally L (go s p (cond a (U6 0) (cond b (U3 1 (s .nx (T .node p 1)) (suc n)) (U6 0)))) bit)
+          (tally L (go s p (cond a (U6 0) (cond b (U3 1 (s .nexts (T .node p 1)) (suc n)) (U6 0)))) bit)
       by true b = lower
-      by false true = plain p (U5 n) (U3 1 (s .nx (T .node p 1)) (suc n)) e (refl, refl)
+      by false true = plain p (U5 n) (U3 1 (s .nexts (T .node p 1)) (suc n)) e (refl, refl)
       by false false = lower
 
   count-U10 : (p i : ℕ) → s .place p ≡ U10 i → Counted P C (L .TR) (tally L (row L s p (U10 i)) bit)
-  count-U10 p i e = by (eqb (s .tl (T .elem p i)) (T .node p i))
+  count-U10 p i e = by (eqb (s .tails (T .elem p i)) (T .node p i))
     where
       by : (b : Bool)
           → Counted P C (L .TR) (tally L (cond b (go (free s (T .elem p i)) p (done L s p i)) (go s p (U8 i))) bit)
@@ -1038,45 +1058,48 @@ module _ (P : ℕ) (L : Plan) (G : Lawful (L .tree)) (small : (q j : ℕ) → L 
   count-row p on o (W2 i) e =
       let was = phase-at T s p (W2 i) e in
       owned p i WAIT (W2 i) (W3 i) e (subst (InRange (T .top p)) was (inv .range p)) (rw was (omega arith)) refl refl
-  count-row p on o (W3 i) e = plain p (W3 i) (cond (eqb (s .tl (T .elem p i)) 0) (W6 i) (W4 i (s .tl (T .elem p i))))
-      e (two p (W3 i) (eqb (s .tl (T .elem p i)) 0) (W6 i) (W4 i (s .tl (T .elem p i))) (refl, refl) (refl, refl))
+  count-row p on o (W3 i) e = plain p (W3 i)
+      (cond (eqb (s .tails (T .elem p i)) 0) (W6 i) (W4 i (s .tails (T .elem p i)))) e
+      (two p (W3 i) (eqb (s .tails (T .elem p i)) 0) (W6 i) (W4 i (s .tails (T .elem p i))) (refl, refl) (refl, refl))
   count-row p on o (W4 i t) e =
-      let so = subst (Sound L (s .st) p) e (v .fine .sound p) in
-      plain p (W4 i t) (W5 i) e (rw (eq-eqb (s .st (T .node p i)) WAIT (so .0)) (refl, refl))
+      let so = subst (Sound L (s .statuses) p) e (v .fine .sound p) in
+      plain p (W4 i t) (W5 i) e (rw (eq-eqb (s .statuses (T .node p i)) WAIT (so .0)) (refl, refl))
   count-row p on o (W5 i) e = count-W5 p i e
   count-row p on o (W6 i) e = count-W6 p i on e
   count-row p on o (W7 k) e = count-W7 p k on o (subst (Within C) e (v .within p)) e
   count-row p on o (W8 k) e = count-W8 p k on o (subst (Within C) e (v .within p)) e
   count-row p on o (W9 k n) e = count-W9 p k n on o (subst (Within C) e (v .within p)) e
-  count-row p on o (U1 i) e = plain p (U1 i) (U2 i (s .st (T .node p i))) e (refl, refl)
+  count-row p on o (U1 i) e = plain p (U1 i) (U2 i (s .statuses (T .node p i))) e (refl, refl)
   count-row p on o (U2 i n) e =
       let up = two p (U2 i n) (leb i 2) U4 (U1 (pred i)) (refl, refl) (refl, refl) in
       plain p (U2 i n)
-      (cond (eqb (s .nx (T .node p i)) 0) (cond (leb i 2) U4 (U1 (pred i)))
-      (cond (ltb n (L .cap p i)) (U3 i (s .nx (T .node p i)) (suc n)) (cond (leb i 2) U4 (U1 (pred i)))))
+      (cond (eqb (s .nexts (T .node p i)) 0) (cond (leb i 2) U4 (U1 (pred i)))
+      (cond (ltb n (L .cap p i)) (U3 i (s .nexts (T .node p i)) (suc n)) (cond (leb i 2) U4 (U1 (pred i)))))
       e
-      (two p (U2 i n) (eqb (s .nx (T .node p i)) 0) (cond (leb i 2) U4 (U1 (pred i)))
-      (cond (ltb n (L .cap p i)) (U3 i (s .nx (T .node p i)) (suc n)) (cond (leb i 2) U4 (U1 (pred i))))
+      (two p (U2 i n) (eqb (s .nexts (T .node p i)) 0) (cond (leb i 2) U4 (U1 (pred i)))
+      (cond (ltb n (L .cap p i)) (U3 i (s .nexts (T .node p i)) (suc n)) (cond (leb i 2) U4 (U1 (pred i))))
       up
-      (two p (U2 i n) (ltb n (L .cap p i)) (U3 i (s .nx (T .node p i)) (suc n))
+      (two p (U2 i n) (ltb n (L .cap p i)) (U3 i (s .nexts (T .node p i)) (suc n))
       (cond (leb i 2) U4 (U1 (pred i))) (refl, refl) up))
   count-row p on o (U3 i t n) e = count-U3 p i t n o e
-  count-row p on o U4 e = plain p U4 (U5 (s .st (T .node p 1))) e (refl, refl)
+  count-row p on o U4 e = plain p U4 (U5 (s .statuses (T .node p 1))) e (refl, refl)
   count-row p on o (U5 n) e = count-U5 p n on o e
   count-row p on o (U6 k) e = count-U6 p k on e
   count-row p on o (U7 k n) e = count-U7 p k n on o (subst (Within C) e (v .within p)) e
-  count-row p on o (U8 i) e = plain p (U8 i) (cond (eqb (s .nx (T .node p i)) 0) (U10 i) (U9 i (s .nx (T .node p i))))
-      e (two p (U8 i) (eqb (s .nx (T .node p i)) 0) (U10 i) (U9 i (s .nx (T .node p i))) (refl, refl) (refl, refl))
+  count-row p on o (U8 i) e = plain p (U8 i)
+      (cond (eqb (s .nexts (T .node p i)) 0) (U10 i) (U9 i (s .nexts (T .node p i)))) e
+      (two p (U8 i) (eqb (s .nexts (T .node p i)) 0) (U10 i) (U9 i (s .nexts (T .node p i))) (refl, refl)
+      (refl, refl))
   count-row p on o (U9 i t) e = count-U9 p i t e
   count-row p on o (U10 i) e = count-U10 p i e
   count-row p on o R1 e = count-R1 p on e
   count-row p on o R2 e = count-R2 p on e
   count-row p on o R3 e = plain p R3
-      (cond (ltb (s .ar (L .home p)) (L .TR)) R1 (cond (leb (2 ^ 62) (s .ar (L .home p))) R3 R4)) e
-      (two p R3 (ltb (s .ar (L .home p)) (L .TR)) R1 (cond (leb (2 ^ 62) (s .ar (L .home p))) R3 R4) (refl, refl)
-      (two p R3 (leb (2 ^ 62) (s .ar (L .home p))) R3 R4 (refl, refl) (refl, refl)))
-  count-row p on o R4 e = plain p R4 (cond (eqb (s .tl (T .elem p 1)) 0) R5 R3) e
-      (two p R4 (eqb (s .tl (T .elem p 1)) 0) R5 R3 (refl, refl) (refl, refl))
+      (cond (ltb (s .arrives (L .home p)) (L .TR)) R1 (cond (leb (2 ^ 62) (s .arrives (L .home p))) R3 R4)) e
+      (two p R3 (ltb (s .arrives (L .home p)) (L .TR)) R1 (cond (leb (2 ^ 62) (s .arrives (L .home p))) R3 R4)
+      (refl, refl) (two p R3 (leb (2 ^ 62) (s .arrives (L .home p))) R3 R4 (refl, refl) (refl, refl)))
+  count-row p on o R4 e = plain p R4 (cond (eqb (s .tails (T .elem p 1)) 0) R5 R3) e
+      (two p R4 (eqb (s .tails (T .elem p 1)) 0) R5 R3 (refl, refl) (refl, refl))
   count-row p on o R5 e = count-R5 p on e
   count-row p on o (R6 n) e = count-R6 p n on e
   count-row p on o R7 e = count-R7 p on e
@@ -1107,67 +1130,72 @@ module _ (P : ℕ) (L : Plan) (G : Lawful (L .tree)) (small : (q j : ℕ) → L 
   within-all p idle e = v .within
   within-all p (W1 i) e = within-row p (W2 i) (tt)
   within-all p (W2 i) e = within-row p (W3 i) (tt)
-  within-all p (W3 i) e = within-row p (cond (eqb (s .tl (T .elem p i)) 0) (W6 i) (W4 i (s .tl (T .elem p i))))
-      (cond-both (eqb (s .tl (T .elem p i)) 0) (W6 i) (W4 i (s .tl (T .elem p i))) (Within C) (λ _. tt) (λ _. tt))
+  within-all p (W3 i) e = within-row p (cond (eqb (s .tails (T .elem p i)) 0) (W6 i) (W4 i (s .tails (T .elem p i))))
+      (cond-both (eqb (s .tails (T .elem p i)) 0) (W6 i) (W4 i (s .tails (T .elem p i))) (Within C)
+      (λ _. tt)
+      (λ _. tt))
   within-all p (W4 i t) e = within-row p (W5 i) (tt)
-  within-all p (W5 i) e = within-W5 p i (eqb (s .st (T .node p i)) WAIT) (leb (s .st (T .node p i)) 1000)
-      (eqb (s .st (T .node p i)) (tell i))
+  within-all p (W5 i) e = within-W5 p i (eqb (s .statuses (T .node p i)) WAIT) (leb (s .statuses (T .node p i)) 1000)
+      (eqb (s .statuses (T .node p i)) (tell i))
   within-all p (W6 i) e = within-row p (cond (leb 2 i) (W1 (pred i)) (W7 0))
       (cond-both (leb 2 i) (W1 (pred i)) (W7 0) (Within C) (λ _. tt) (λ _. omega (arith, homes p)))
   within-all p (W7 k) e = within-row p (next L s p k (W8 0) W7)
       (cond-both (ltb (suc k) C) (W7 (suc k)) (W8 0) (Within C)
       (λ z. ltb-true (suc k) C z)
       (λ _. omega (arith, homes p)))
-  within-all p (W8 k) e = within-row p (W9 k (s .ar k)) (subst (Within C) e (v .within p))
-  within-all p (W9 k n) e = within-row p (cond (eqb n (2 ^ 62 + s .de k)) (next L s p k writes W8) (W8 k))
-      (cond-both (eqb n (2 ^ 62 + s .de k)) (next L s p k writes W8) (W8 k) (Within C)
+  within-all p (W8 k) e = within-row p (W9 k (s .arrives k)) (subst (Within C) e (v .within p))
+  within-all p (W9 k n) e = within-row p (cond (eqb n (2 ^ 62 + s .departs k)) (next L s p k writes W8) (W8 k))
+      (cond-both (eqb n (2 ^ 62 + s .departs k)) (next L s p k writes W8) (W8 k) (Within C)
       (λ _. cond-both (ltb (suc k) C) (W8 (suc k)) (writes) (Within C) (λ z. ltb-true (suc k) C z) (λ _. tt))
       (λ _. subst (Within C) e (v .within p)))
-  within-all p (U1 i) e = within-row p (U2 i (s .st (T .node p i))) (tt)
+  within-all p (U1 i) e = within-row p (U2 i (s .statuses (T .node p i))) (tt)
   within-all p (U2 i n) e = within-row p
-      (cond (eqb (s .nx (T .node p i)) 0) (cond (leb i 2) U4 (U1 (pred i)))
-      (cond (ltb n (L .cap p i)) (U3 i (s .nx (T .node p i)) (suc n)) (cond (leb i 2) U4 (U1 (pred i)))))
-      (cond-both (eqb (s .nx (T .node p i)) 0) (cond (leb i 2) U4 (U1 (pred i)))
-      (cond (ltb n (L .cap p i)) (U3 i (s .nx (T .node p i)) (suc n)) (cond (leb i 2) U4 (U1 (pred i))))
+      (cond (eqb (s .nexts (T .node p i)) 0) (cond (leb i 2) U4 (U1 (pred i)))
+      (cond (ltb n (L .cap p i)) (U3 i (s .nexts (T .node p i)) (suc n)) (cond (leb i 2) U4 (U1 (pred i)))))
+      (cond-both (eqb (s .nexts (T .node p i)) 0) (cond (leb i 2) U4 (U1 (pred i)))
+      (cond (ltb n (L .cap p i)) (U3 i (s .nexts (T .node p i)) (suc n)) (cond (leb i 2) U4 (U1 (pred i))))
       (Within C)
       (λ _. cond-both (leb i 2) (U4) (U1 (pred i)) (Within C) (λ _. tt) (λ _. tt))
       (λ _.
-      cond-both (ltb n (L .cap p i)) (U3 i (s .nx (T .node p i)) (suc n))
+      cond-both (ltb n (L .cap p i)) (U3 i (s .nexts (T .node p i)) (suc n))
       (cond (leb i 2) U4 (U1 (pred i))) (Within C)
       (λ _. tt)
       (λ _. cond-both (leb i 2) (U4) (U1 (pred i)) (Within C) (λ _. tt) (λ _. tt))))
   within-all p (U3 i t n) e =
       within-row p (done L s p i) (cond-both (eqb i (T .top p)) (idle) (U8 (suc i)) (Within C) (λ _. tt) (λ _. tt))
-  within-all p U4 e = within-row p (U5 (s .st (T .node p 1))) (tt)
+  within-all p U4 e = within-row p (U5 (s .statuses (T .node p 1))) (tt)
   within-all p (U5 n) e = within-row p
-      (cond (eqb (s .nx (T .node p 1)) 0) (U6 0)
-      (cond (ltb n (L .cap p 1)) (U3 1 (s .nx (T .node p 1)) (suc n)) (U6 0)))
-      (cond-both (eqb (s .nx (T .node p 1)) 0) (U6 0)
-      (cond (ltb n (L .cap p 1)) (U3 1 (s .nx (T .node p 1)) (suc n)) (U6 0)) (Within C)
+      (cond (eqb (s .nexts (T .node p 1)) 0) (U6 0)
+      (cond (ltb n (L .cap p 1)) (U3 1 (s .nexts (T .node p 1)) (suc n)) (U6 0)))
+      (cond-both (eqb (s .nexts (T .node p 1)) 0) (U6 0)
+      (cond (ltb n (L .cap p 1)) (U3 1 (s .nexts (T .node p 1)) (suc n)) (U6 0)) (Within C)
       (λ _. omega (arith, homes p))
       (λ _.
-      cond-both (ltb n (L .cap p 1)) (U3 1 (s .nx (T .node p 1)) (suc n)) (U6 0) (Within C)
+      cond-both (ltb n (L .cap p 1)) (U3 1 (s .nexts (T .node p 1)) (suc n)) (U6 0) (Within C)
       (λ _. tt)
       (λ _. omega (arith, homes p))))
-  within-all p (U6 k) e = within-row p (U7 k (s .de k)) (subst (Within C) e (v .within p))
+  within-all p (U6 k) e = within-row p (U7 k (s .departs k)) (subst (Within C) e (v .within p))
   within-all p (U7 k n) e = within-row p (next L s p k (U8 1) U6)
       (cond-both (ltb (suc k) C) (U6 (suc k)) (U8 1) (Within C) (λ z. ltb-true (suc k) C z) (λ _. tt))
-  within-all p (U8 i) e = within-row p (cond (eqb (s .nx (T .node p i)) 0) (U10 i) (U9 i (s .nx (T .node p i))))
-      (cond-both (eqb (s .nx (T .node p i)) 0) (U10 i) (U9 i (s .nx (T .node p i))) (Within C) (λ _. tt) (λ _. tt))
+  within-all p (U8 i) e = within-row p (cond (eqb (s .nexts (T .node p i)) 0) (U10 i) (U9 i (s .nexts (T .node p i))))
+      (cond-both (eqb (s .nexts (T .node p i)) 0) (U10 i) (U9 i (s .nexts (T .node p i))) (Within C)
+      (λ _. tt)
+      (λ _. tt))
   within-all p (U9 i t) e =
       within-row p (done L s p i) (cond-both (eqb i (T .top p)) (idle) (U8 (suc i)) (Within C) (λ _. tt) (λ _. tt))
-  within-all p (U10 i) e = within-U10 p i (eqb (s .tl (T .elem p i)) (T .node p i))
-  within-all p R1 e = within-row p (cond (ltb (s .ar (L .home p)) (L .TR)) reads R2)
-      (cond-both (ltb (s .ar (L .home p)) (L .TR)) (reads) (R2) (Within C) (λ _. tt) (λ _. tt))
+  within-all p (U10 i) e = within-U10 p i (eqb (s .tails (T .elem p i)) (T .node p i))
+  within-all p R1 e = within-row p (cond (ltb (s .arrives (L .home p)) (L .TR)) reads R2)
+      (cond-both (ltb (s .arrives (L .home p)) (L .TR)) (reads) (R2) (Within C) (λ _. tt) (λ _. tt))
   within-all p R2 e = within-row p (R3) (tt)
   within-all p R3 e = within-row p
-      (cond (ltb (s .ar (L .home p)) (L .TR)) R1 (cond (leb (2 ^ 62) (s .ar (L .home p))) R3 R4))
-      (cond-both (ltb (s .ar (L .home p)) (L .TR)) (R1) (cond (leb (2 ^ 62) (s .ar (L .home p))) R3 R4) (Within C)
+      (cond (ltb (s .arrives (L .home p)) (L .TR)) R1 (cond (leb (2 ^ 62) (s .arrives (L .home p))) R3 R4))
+      (cond-both (ltb (s .arrives (L .home p)) (L .TR)) (R1) (cond (leb (2 ^ 62) (s .arrives (L .home p))) R3 R4)
+      (Within C)
       (λ _. tt)
-      (λ _. cond-both (leb (2 ^ 62) (s .ar (L .home p))) (R3) (R4) (Within C) (λ _. tt) (λ _. tt)))
-  within-all p R4 e = within-row p (cond (eqb (s .tl (T .elem p 1)) 0) R5 R3)
-      (cond-both (eqb (s .tl (T .elem p 1)) 0) (R5) (R3) (Within C) (λ _. tt) (λ _. tt))
-  within-all p R5 e = within-row p (R6 (s .de (L .home p))) (tt)
+      (λ _. cond-both (leb (2 ^ 62) (s .arrives (L .home p))) (R3) (R4) (Within C) (λ _. tt) (λ _. tt)))
+  within-all p R4 e = within-row p (cond (eqb (s .tails (T .elem p 1)) 0) R5 R3)
+      (cond-both (eqb (s .tails (T .elem p 1)) 0) (R5) (R3) (Within C) (λ _. tt) (λ _. tt))
+  within-all p R5 e = within-row p (R6 (s .departs (L .home p))) (tt)
   within-all p (R6 n) e = within-row p (R3) (tt)
   within-all p R7 e = within-row p (idle) (tt)
   within-all p writes e = v .within

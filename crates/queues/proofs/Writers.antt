@@ -87,8 +87,8 @@ unfolding upd
 falls L s p f c o a = grind (arith, tells)
 
 able-or : (L : Plan) (s : Lock) (p : ℕ) (f : Place) → ((q j : ℕ) → L .cap q j ≤ 1000)
-    → InRange (L .tree .top p) (phaseOf f (s .st (L .tree .node p (at-level f)))) → Sound L (s .st) p f
-    → Within (L .counters) f → NoWait (phaseOf f (s .st (L .tree .node p (at-level f))))
+    → InRange (L .tree .top p) (phaseOf f (s .statuses (L .tree .node p (at-level f)))) → Sound L (s .statuses) p f
+    → Within (L .counters) f → NoWait (phaseOf f (s .statuses (L .tree .node p (at-level f))))
     → 0 < number (L .tree .top p) (L .counters) f → Able L s p f ⊎ Odd f
 able-or L s p f c r so w n a = grind (arith, tells)
 
@@ -166,7 +166,8 @@ module _ (P : ℕ) (L : Plan) (g : Apt P L) where
       (rw (upd-same (s .place) p f, e) (d .1)))
 
   -- the counter is drained: W8 reads what W9 wants
-  drained : (s : Lock) → Quiet s → (p k n : ℕ) → On P p → s .place p ≡ W9 k n → k < C → s .ar k ≡ 2 ^ 62 + s .de k
+  drained : (s : Lock) → Quiet s → (p k n : ℕ) → On P p → s .place p ≡ W9 k n → k < C
+      → s .arrives k ≡ 2 ^ 62 + s .departs k
   drained s v p k n on e lt = passes P C (L .TR) (tally L s (v .0 .bit)) (v .0 .safe .counted) k lt
       (v .0 .safe .counted .marked p k lt (subst (λ x. Marks x k) (sym (gate-at T s p (W9 k n) e)) tt))
       (λ q o. nothing q o (loads (L .home q) (s .place q) k (v .1 q o)))
@@ -195,7 +196,7 @@ module _ (P : ℕ) (L : Plan) (g : Apt P L) where
 
   -- W9, one move or three
   check-again : (s : Lock) → Quiet s → (p k n : ℕ) → On P p → s .place p ≡ W9 k n → Reach P L (Less s) s
-  check-again s v p k n on e = by (cases-eq n (2 ^ 62 + s .de k))
+  check-again s v p k n on e = by (cases-eq n (2 ^ 62 + s .departs k))
     where
       lt : k < C
       lt = subst (Within C) e (v .0 .safe .within p)
@@ -204,34 +205,34 @@ module _ (P : ℕ) (L : Plan) (g : Apt P L) where
       s₁ = go s p (W8 k)
 
       s₂ : Lock
-      s₂ = go s₁ p (W9 k (s .ar k))
+      s₂ = go s₁ p (W9 k (s .arrives k))
 
-      able : Able L s₂ p (W9 k (s .ar k))
+      able : Able L s₂ p (W9 k (s .arrives k))
       able = (lt, drained s v p k n on e lt)
 
       third : Good P L s₂ → Reach P L (Less s) s₂
       third w =
-          let d = able-quiet L s₂ p (W9 k (s .ar k)) able in
-          by-step P L g (Less s) s₂ w p on (W9 k (s .ar k)) (upd-same (s₁ .place) p (W9 k (s .ar k))) (d .0)
+          let d = able-quiet L s₂ p (W9 k (s .arrives k)) able in
+          by-step P L g (Less s) s₂ w p on (W9 k (s .arrives k)) (upd-same (s₁ .place) p (W9 k (s .arrives k))) (d .0)
           (λ x.
-          ends s (row L s₂ p (W9 k (s .ar k))) p on v x
+          ends s (row L s₂ p (W9 k (s .arrives k))) p on v x
           (λ q a.
-          row-other L s₂ p (W9 k (s .ar k)) q a
-          ∙ (upd-other (s₁ .place) p (W9 k (s .ar k)) q a ∙ upd-other (s .place) p (W8 k) q a))
+          row-other L s₂ p (W9 k (s .arrives k)) q a
+          ∙ (upd-other (s₁ .place) p (W9 k (s .arrives k)) q a ∙ upd-other (s .place) p (W8 k) q a))
           (d .1)
-          (rw e (falls L s₂ p (W9 k (s .ar k)) (omega (arith, g .sensible .homes p)) (g .all p on) able)))
+          (rw e (falls L s₂ p (W9 k (s .arrives k)) (omega (arith, g .sensible .homes p)) (g .all p on) able)))
 
       second : Good P L s₁ → Reach P L (Less s) s₁
       second w = by-step P L g (Less s) s₁ w p on (W8 k) (upd-same (s .place) p (W8 k)) (omega arith) third
 
-      by : (n ≡ 2 ^ 62 + s .de k) ⊎ (n ≡ 2 ^ 62 + s .de k → ⊥) → Reach P L (Less s) s
+      by : (n ≡ 2 ^ 62 + s .departs k) ⊎ (n ≡ 2 ^ 62 + s .departs k → ⊥) → Reach P L (Less s) s
       by (inl z) = one-move s v p on (W9 k n) e (lt, z)
-      by (inr z) =
-          by-step P L g (Less s) s (v .0) p on (W9 k n) e (omega arith) (rw (ne-eqb n (2 ^ 62 + s .de k) z) second)
+      by (inr z) = by-step P L g (Less s) s (v .0) p on (W9 k n) e (omega arith)
+          (rw (ne-eqb n (2 ^ 62 + s .departs k) z) second)
 
   -- U10, one move or three, or a move of the rank that is about to link itself
   last-or-not : (s : Lock) → Quiet s → (p i : ℕ) → On P p → s .place p ≡ U10 i → Reach P L (Less s) s
-  last-or-not s v p i on e = by (cases-eq (s .tl (T .elem p i)) (T .node p i))
+  last-or-not s v p i on e = by (cases-eq (s .tails (T .elem p i)) (T .node p i))
     where
       inv : Inv T (view T s)
       inv = v .0 .safe .fine .queues
@@ -243,7 +244,7 @@ module _ (P : ℕ) (L : Plan) (g : Apt P L) where
       oi = subst (InRange (T .top p)) was (inv .range p)
 
       t : ℕ
-      t = s .nx (T .node p i)
+      t = s .nexts (T .node p i)
 
       s₁ : Lock
       s₁ = go s p (U8 i)
@@ -267,18 +268,19 @@ module _ (P : ℕ) (L : Plan) (g : Apt P L) where
       second z w = by-step P L g (Less s) s₁ w p on (U8 i) (upd-same (s .place) p (U8 i)) (omega arith)
           (rw (ne-eqb t 0 z) third)
 
-      other : s .tl (T .elem p i) ≢ T .node p i → (m : Follower T (view T s) p i)
+      other : s .tails (T .elem p i) ≢ T .node p i → (m : Follower T (view T s) p i)
           → ((phase T s (m .rank) ≡ wait i) × (t ≡ T .node (m .rank) i))
           ⊎ (phase T s (m .rank) ≡ link i (T .node p i)) → Reach P L (Less s) s
       other z m (inl y) = by-step P L g (Less s) s (v .0) p on (U10 i) e (omega arith)
-          (rw (ne-eqb (s .tl (T .elem p i)) (T .node p i) z)
+          (rw (ne-eqb (s .tails (T .elem p i)) (T .node p i) z)
           (second (λ x. g .sensible .tree .no-zero (m .rank) i (m .on) (sym (y .1) ∙ x))))
       other z m (inr y) = one-move s v (m .rank) (g .sensible .ranks (m .rank) (omega (arith, m .on)))
           (W4 i (T .node p i))
-          (only-W4 (s .place (m .rank)) (s .st (T .node (m .rank) (at-level (s .place (m .rank))))) i (T .node p i) y)
+          (only-W4 (s .place (m .rank)) (s .statuses (T .node (m .rank) (at-level (s .place (m .rank))))) i
+          (T .node p i) y)
           tt
 
-      by : (s .tl (T .elem p i) ≡ T .node p i) ⊎ (s .tl (T .elem p i) ≡ T .node p i → ⊥) → Reach P L (Less s) s
+      by : (s .tails (T .elem p i) ≡ T .node p i) ⊎ (s .tails (T .elem p i) ≡ T .node p i → ⊥) → Reach P L (Less s) s
       by (inl z) = one-move s v p on (U10 i) e (oi, z)
       by (inr z) = let m = follower T (g .sensible .tree) (view T s) inv p i was z in other z m (m .how)
 
@@ -310,7 +312,7 @@ module _ (P : ℕ) (L : Plan) (g : Apt P L) where
       other m =
           let d =
           holds-ahead (T .top (m .rank)) C (s .place (m .rank))
-          (s .st (T .node (m .rank) (at-level (s .place (m .rank))))) (v .0 .safe .within (m .rank))
+          (s .statuses (T .node (m .rank) (at-level (s .place (m .rank))))) (v .0 .safe .within (m .rank))
           (inv .range (m .rank)) (m .holds) in
           free-move s v (m .rank) (g .sensible .ranks (m .rank) (d .0)) (m .free) (d .1)
 

@@ -12,14 +12,14 @@ abbrev pub fresh-lock : Lock
 fresh-lock =
     record {
       place = λ p. idle;
-      nx = λ h. 0;
-      st = λ h. 0;
-      tl = λ k. 0;
-      ar = λ c. 0;
-      de = λ c. 0;
-      at = λ k a. 0;
-      lo = λ k. 0;
-      hi = λ k. 0;
+      nexts = λ h. 0;
+      statuses = λ h. 0;
+      tails = λ k. 0;
+      arrives = λ c. 0;
+      departs = λ c. 0;
+      node-at = λ k a. 0;
+      head-turn = λ k. 0;
+      next-turn = λ k. 0;
     }
 
 -- what a plan says besides its tree

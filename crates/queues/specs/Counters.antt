@@ -77,18 +77,18 @@ Keeps (lowering k) c = ⊥
 pub record Tally : Type 0 where
   pub load : ℕ → Load
   pub gate : ℕ → Gate
-  pub ar : ℕ → ℕ
-  pub de : ℕ → ℕ
+  pub arrives : ℕ → ℕ
+  pub departs : ℕ → ℕ
   pub bit : ℕ → ℕ
 
 abbrev pub F : ℕ
 F = 2 ^ 62
 
 pub record Count (P TR : ℕ) (s : Tally) (c : ℕ) : Type 0 where
-  pub sum : s .ar c
-      ≡ F * s .bit c + s .de c + total P (λ p. tries (s .load p) c) + total P (λ p. reads (s .load p) c)
+  pub sum : s .arrives c
+      ≡ F * s .bit c + s .departs c + total P (λ p. tries (s .load p) c) + total P (λ p. reads (s .load p) c)
       + total P (λ p. clears (s .load p) c)
-  pub small : s .de c + total P (λ p. reads (s .load p) c) + total P (λ p. clears (s .load p) c) ≤ TR
+  pub small : s .departs c + total P (λ p. reads (s .load p) c) + total P (λ p. clears (s .load p) c) ≤ TR
   pub bits : s .bit c ≤ 1
   pub stands : s .bit c ≡ 1 → (p : ℕ) × Marks (s .gate p) c
 
@@ -96,4 +96,4 @@ pub record Counted (P C TR : ℕ) (s : Tally) : Type 0 where
   pub each : (c : ℕ) → c < C → Count P TR s c
   pub marked : (p c : ℕ) → c < C → Marks (s .gate p) c → s .bit c ≡ 1
   pub kept : (p c : ℕ) → c < C → Keeps (s .gate p) c → (q : ℕ) → On P q → s .load q ≢ inside c
-  pub seen : (p k n : ℕ) → s .gate p ≡ reading k n → F + s .de k + total P (λ p. reads (s .load p) k) ≤ n
+  pub seen : (p k n : ℕ) → s .gate p ≡ reading k n → F + s .departs k + total P (λ p. reads (s .load p) k) ≤ n

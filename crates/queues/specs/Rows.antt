@@ -28,14 +28,14 @@ pub record Plan : Type 0 where
 -- records and words; TAIL is by element, ARRIVE and DEPART by counter; and the ghost history
 pub record Lock : Type 0 where
   pub place : ℕ → Place
-  pub nx : ℕ → ℕ
-  pub st : ℕ → ℕ
-  pub tl : ℕ → ℕ
-  pub ar : ℕ → ℕ
-  pub de : ℕ → ℕ
-  pub at : ℕ → ℕ → ℕ
-  pub lo : ℕ → ℕ
-  pub hi : ℕ → ℕ
+  pub nexts : ℕ → ℕ
+  pub statuses : ℕ → ℕ
+  pub tails : ℕ → ℕ
+  pub arrives : ℕ → ℕ
+  pub departs : ℕ → ℕ
+  pub node-at : ℕ → ℕ → ℕ
+  pub head-turn : ℕ → ℕ
+  pub next-turn : ℕ → ℕ
 
 unfoldable pub upd : {A : Type 0} → (ℕ → A) → ℕ → A → ℕ → A
 upd f a v b = cond (eqb b a) v (f b)
@@ -44,42 +44,42 @@ abbrev pub go : Lock → ℕ → Place → Lock
 go s p f =
     record {
       place = upd (s .place) p f;
-      nx = s .nx;
-      st = s .st;
-      tl = s .tl;
-      ar = s .ar;
-      de = s .de;
-      at = s .at;
-      lo = s .lo;
-      hi = s .hi;
+      nexts = s .nexts;
+      statuses = s .statuses;
+      tails = s .tails;
+      arrives = s .arrives;
+      departs = s .departs;
+      node-at = s .node-at;
+      head-turn = s .head-turn;
+      next-turn = s .next-turn;
     }
 
-abbrev pub put-nx : Lock → ℕ → ℕ → Lock
-put-nx s h v =
+abbrev pub put-next : Lock → ℕ → ℕ → Lock
+put-next s h v =
     record {
       place = s .place;
-      nx = upd (s .nx) h v;
-      st = s .st;
-      tl = s .tl;
-      ar = s .ar;
-      de = s .de;
-      at = s .at;
-      lo = s .lo;
-      hi = s .hi;
+      nexts = upd (s .nexts) h v;
+      statuses = s .statuses;
+      tails = s .tails;
+      arrives = s .arrives;
+      departs = s .departs;
+      node-at = s .node-at;
+      head-turn = s .head-turn;
+      next-turn = s .next-turn;
     }
 
-abbrev pub put-st : Lock → ℕ → ℕ → Lock
-put-st s h v =
+abbrev pub put-status : Lock → ℕ → ℕ → Lock
+put-status s h v =
     record {
       place = s .place;
-      nx = s .nx;
-      st = upd (s .st) h v;
-      tl = s .tl;
-      ar = s .ar;
-      de = s .de;
-      at = s .at;
-      lo = s .lo;
-      hi = s .hi;
+      nexts = s .nexts;
+      statuses = upd (s .statuses) h v;
+      tails = s .tails;
+      arrives = s .arrives;
+      departs = s .departs;
+      node-at = s .node-at;
+      head-turn = s .head-turn;
+      next-turn = s .next-turn;
     }
 
 -- W3: the node x joins the queue k
@@ -87,14 +87,14 @@ abbrev pub join : Lock → ℕ → ℕ → Lock
 join s k x =
     record {
       place = s .place;
-      nx = s .nx;
-      st = s .st;
-      tl = upd (s .tl) k x;
-      ar = s .ar;
-      de = s .de;
-      at = upd (s .at) k (upd (s .at k) (s .hi k) x);
-      lo = s .lo;
-      hi = upd (s .hi) k (suc (s .hi k));
+      nexts = s .nexts;
+      statuses = s .statuses;
+      tails = upd (s .tails) k x;
+      arrives = s .arrives;
+      departs = s .departs;
+      node-at = upd (s .node-at) k (upd (s .node-at k) (s .next-turn k) x);
+      head-turn = s .head-turn;
+      next-turn = upd (s .next-turn) k (suc (s .next-turn k));
     }
 
 -- the head of the queue k goes
@@ -102,14 +102,14 @@ abbrev pub drop : Lock → ℕ → Lock
 drop s k =
     record {
       place = s .place;
-      nx = s .nx;
-      st = s .st;
-      tl = s .tl;
-      ar = s .ar;
-      de = s .de;
-      at = s .at;
-      lo = upd (s .lo) k (suc (s .lo k));
-      hi = s .hi;
+      nexts = s .nexts;
+      statuses = s .statuses;
+      tails = s .tails;
+      arrives = s .arrives;
+      departs = s .departs;
+      node-at = s .node-at;
+      head-turn = upd (s .head-turn) k (suc (s .head-turn k));
+      next-turn = s .next-turn;
     }
 
 -- and nothing is left
@@ -117,42 +117,42 @@ abbrev pub free : Lock → ℕ → Lock
 free s k =
     record {
       place = s .place;
-      nx = s .nx;
-      st = s .st;
-      tl = upd (s .tl) k 0;
-      ar = s .ar;
-      de = s .de;
-      at = s .at;
-      lo = upd (s .lo) k (suc (s .lo k));
-      hi = s .hi;
+      nexts = s .nexts;
+      statuses = s .statuses;
+      tails = upd (s .tails) k 0;
+      arrives = s .arrives;
+      departs = s .departs;
+      node-at = s .node-at;
+      head-turn = upd (s .head-turn) k (suc (s .head-turn k));
+      next-turn = s .next-turn;
     }
 
-abbrev pub put-ar : Lock → ℕ → ℕ → Lock
-put-ar s c v =
+abbrev pub put-arrive : Lock → ℕ → ℕ → Lock
+put-arrive s c v =
     record {
       place = s .place;
-      nx = s .nx;
-      st = s .st;
-      tl = s .tl;
-      ar = upd (s .ar) c v;
-      de = s .de;
-      at = s .at;
-      lo = s .lo;
-      hi = s .hi;
+      nexts = s .nexts;
+      statuses = s .statuses;
+      tails = s .tails;
+      arrives = upd (s .arrives) c v;
+      departs = s .departs;
+      node-at = s .node-at;
+      head-turn = s .head-turn;
+      next-turn = s .next-turn;
     }
 
-abbrev pub put-de : Lock → ℕ → ℕ → Lock
-put-de s c v =
+abbrev pub put-depart : Lock → ℕ → ℕ → Lock
+put-depart s c v =
     record {
       place = s .place;
-      nx = s .nx;
-      st = s .st;
-      tl = s .tl;
-      ar = s .ar;
-      de = upd (s .de) c v;
-      at = s .at;
-      lo = s .lo;
-      hi = s .hi;
+      nexts = s .nexts;
+      statuses = s .statuses;
+      tails = s .tails;
+      arrives = s .arrives;
+      departs = upd (s .departs) c v;
+      node-at = s .node-at;
+      head-turn = s .head-turn;
+      next-turn = s .next-turn;
     }
 
 module _ (L : Plan) (s : Lock) (p : ℕ) where
@@ -175,36 +175,36 @@ module _ (L : Plan) (s : Lock) (p : ℕ) where
   -- one row, at the place given
   abbrev pub row : Place → Lock
   row idle = s
-  row (W1 i) = go (put-nx s (x i) 0) p (W2 i)
-  row (W2 i) = go (put-st s (x i) WAIT) p (W3 i)
-  row (W3 i) = go (join s (k i) (x i)) p (cond (eqb (s .tl (k i)) 0) (W6 i) (W4 i (s .tl (k i))))
-  row (W4 i t) = go (put-nx s t (x i)) p (W5 i)
-  row (W5 i) = cond (eqb (s .st (x i)) WAIT) s
-      (cond (leb (s .st (x i)) 1000) (go s p writes) (cond (eqb (s .st (x i)) (tell i)) (go s p (W6 i)) s))
-  row (W6 i) = go (put-st s (x i) 0) p (cond (leb 2 i) (W1 (pred i)) (W7 0))
-  row (W7 n) = go (put-ar s n (s .ar n + 2 ^ 62)) p (next n (W8 0) W7)
-  row (W8 n) = go s p (W9 n (s .ar n))
-  row (W9 n a) = go s p (cond (eqb a (2 ^ 62 + s .de n)) (next n writes W8) (W8 n))
-  row (U1 i) = go s p (U2 i (s .st (x i)))
+  row (W1 i) = go (put-next s (x i) 0) p (W2 i)
+  row (W2 i) = go (put-status s (x i) WAIT) p (W3 i)
+  row (W3 i) = go (join s (k i) (x i)) p (cond (eqb (s .tails (k i)) 0) (W6 i) (W4 i (s .tails (k i))))
+  row (W4 i t) = go (put-next s t (x i)) p (W5 i)
+  row (W5 i) = cond (eqb (s .statuses (x i)) WAIT) s
+      (cond (leb (s .statuses (x i)) 1000) (go s p writes) (cond (eqb (s .statuses (x i)) (tell i)) (go s p (W6 i)) s))
+  row (W6 i) = go (put-status s (x i) 0) p (cond (leb 2 i) (W1 (pred i)) (W7 0))
+  row (W7 n) = go (put-arrive s n (s .arrives n + 2 ^ 62)) p (next n (W8 0) W7)
+  row (W8 n) = go s p (W9 n (s .arrives n))
+  row (W9 n a) = go s p (cond (eqb a (2 ^ 62 + s .departs n)) (next n writes W8) (W8 n))
+  row (U1 i) = go s p (U2 i (s .statuses (x i)))
   row (U2 i n) = go s p
-      (cond (eqb (s .nx (x i)) 0) (cond (leb i 2) U4 (U1 (pred i)))
-      (cond (ltb n (L .cap p i)) (U3 i (s .nx (x i)) (suc n)) (cond (leb i 2) U4 (U1 (pred i)))))
-  row (U3 i t n) = go (drop (put-st s t n) (k i)) p (done i)
-  row U4 = go s p (U5 (s .st (x 1)))
+      (cond (eqb (s .nexts (x i)) 0) (cond (leb i 2) U4 (U1 (pred i)))
+      (cond (ltb n (L .cap p i)) (U3 i (s .nexts (x i)) (suc n)) (cond (leb i 2) U4 (U1 (pred i)))))
+  row (U3 i t n) = go (drop (put-status s t n) (k i)) p (done i)
+  row U4 = go s p (U5 (s .statuses (x 1)))
   row (U5 n) =
-      go s p (cond (eqb (s .nx (x 1)) 0) (U6 0) (cond (ltb n (L .cap p 1)) (U3 1 (s .nx (x 1)) (suc n)) (U6 0)))
-  row (U6 n) = go (put-de s n 0) p (U7 n (s .de n))
-  row (U7 n a) = go (put-ar s n (s .ar n - (2 ^ 62 + a))) p (next n (U8 1) U6)
-  row (U8 i) = go s p (cond (eqb (s .nx (x i)) 0) (U10 i) (U9 i (s .nx (x i))))
-  row (U9 i t) = go (drop (put-st s t (tell i)) (k i)) p (done i)
-  row (U10 i) = cond (eqb (s .tl (k i)) (x i)) (go (free s (k i)) p (done i)) (go s p (U8 i))
-  row R1 = go (put-ar s c (suc (s .ar c))) p (cond (ltb (s .ar c) (L .TR)) reads R2)
-  row R2 = go (put-ar s c (pred (s .ar c))) p R3
-  row R3 = go s p (cond (ltb (s .ar c) (L .TR)) R1 (cond (leb (2 ^ 62) (s .ar c)) R3 R4))
-  row R4 = go s p (cond (eqb (s .tl (k 1)) 0) R5 R3)
-  row R5 = go (put-de s c 0) p (R6 (s .de c))
-  row (R6 n) = go (put-ar s c (s .ar c - n)) p R3
-  row R7 = go (put-de s c (suc (s .de c))) p idle
+      go s p (cond (eqb (s .nexts (x 1)) 0) (U6 0) (cond (ltb n (L .cap p 1)) (U3 1 (s .nexts (x 1)) (suc n)) (U6 0)))
+  row (U6 n) = go (put-depart s n 0) p (U7 n (s .departs n))
+  row (U7 n a) = go (put-arrive s n (s .arrives n - (2 ^ 62 + a))) p (next n (U8 1) U6)
+  row (U8 i) = go s p (cond (eqb (s .nexts (x i)) 0) (U10 i) (U9 i (s .nexts (x i))))
+  row (U9 i t) = go (drop (put-status s t (tell i)) (k i)) p (done i)
+  row (U10 i) = cond (eqb (s .tails (k i)) (x i)) (go (free s (k i)) p (done i)) (go s p (U8 i))
+  row R1 = go (put-arrive s c (suc (s .arrives c))) p (cond (ltb (s .arrives c) (L .TR)) reads R2)
+  row R2 = go (put-arrive s c (pred (s .arrives c))) p R3
+  row R3 = go s p (cond (ltb (s .arrives c) (L .TR)) R1 (cond (leb (2 ^ 62) (s .arrives c)) R3 R4))
+  row R4 = go s p (cond (eqb (s .tails (k 1)) 0) R5 R3)
+  row R5 = go (put-depart s c 0) p (R6 (s .departs c))
+  row (R6 n) = go (put-arrive s c (s .arrives c - n)) p R3
+  row R7 = go (put-depart s c (suc (s .departs c))) p idle
   row writes = s
   row reads = s
 
@@ -276,48 +276,56 @@ at-level writes = 0
 at-level reads = 0
 
 abbrev pub phase : Tree → Lock → ℕ → Phase
-phase T s p = phaseOf (s .place p) (s .st (T .node p (at-level (s .place p))))
+phase T s p = phaseOf (s .place p) (s .statuses (T .node p (at-level (s .place p))))
 
 abbrev pub view : Tree → Lock → State
-view T s = record { ph = phase T s; nx = s .nx; tl = s .tl; at = s .at; lo = s .lo; hi = s .hi }
+view T s =
+    record {
+      phases = phase T s;
+      nexts = s .nexts;
+      tails = s .tails;
+      node-at = s .node-at;
+      head-turn = s .head-turn;
+      next-turn = s .next-turn;
+    }
 
 -- the own statuses from a level on are counts within the plan's bounds
 abbrev pub Counts : Plan → (ℕ → ℕ) → ℕ → ℕ → Type 0
-Counts L st p from = (j : ℕ) → from ≤ j → j ≤ L .tree .top p → st (L .tree .node p j) ≤ 1000
+Counts L statuses p from = (j : ℕ) → from ≤ j → j ≤ L .tree .top p → statuses (L .tree .node p j) ≤ 1000
 
 -- what a rank's place says of its fields and of the STATUS words
 abbrev pub Sound : Plan → (ℕ → ℕ) → ℕ → Place → Type 0
-Sound L st p idle = Unit {0}
-Sound L st p (W1 i) = Counts L st p (suc i)
-Sound L st p (W2 i) = Counts L st p (suc i)
-Sound L st p (W3 i) = (st (L .tree .node p i) ≡ WAIT) × Counts L st p (suc i)
-Sound L st p (W4 i t) = (st (L .tree .node p i) ≡ WAIT) × Counts L st p (suc i)
-Sound L st p (W5 i) = On (L .tree .top p) i × Counts L st p (suc i)
-    × ((st (L .tree .node p i) ≡ WAIT) ⊎ ((st (L .tree .node p i) ≡ tell i) ⊎ Counts L st p 1))
-Sound L st p (W6 i) = Counts L st p (suc i)
-Sound L st p (W7 n) = Counts L st p 1
-Sound L st p (W8 n) = Counts L st p 1
-Sound L st p (W9 n a) = Counts L st p 1
-Sound L st p (U1 i) = (2 ≤ i) × (i ≤ L .tree .top p) × Counts L st p 1
-Sound L st p (U2 i n) = (2 ≤ i) × (i ≤ L .tree .top p) × Counts L st p 1
-Sound L st p (U3 i t n) = (n ≤ 1000) × Counts L st p 1
-Sound L st p U4 = Counts L st p 1
-Sound L st p (U5 n) = Counts L st p 1
-Sound L st p (U6 n) = Counts L st p 1
-Sound L st p (U7 n a) = Counts L st p 1
-Sound L st p (U8 i) = Unit {0}
-Sound L st p (U9 i t) = Unit {0}
-Sound L st p (U10 i) = Unit {0}
-Sound L st p R1 = Unit {0}
-Sound L st p R2 = Unit {0}
-Sound L st p R3 = Unit {0}
-Sound L st p R4 = Unit {0}
-Sound L st p R5 = Unit {0}
-Sound L st p (R6 n) = Unit {0}
-Sound L st p R7 = Unit {0}
-Sound L st p writes = Counts L st p 1
-Sound L st p reads = Unit {0}
+Sound L statuses p idle = Unit {0}
+Sound L statuses p (W1 i) = Counts L statuses p (suc i)
+Sound L statuses p (W2 i) = Counts L statuses p (suc i)
+Sound L statuses p (W3 i) = (statuses (L .tree .node p i) ≡ WAIT) × Counts L statuses p (suc i)
+Sound L statuses p (W4 i t) = (statuses (L .tree .node p i) ≡ WAIT) × Counts L statuses p (suc i)
+Sound L statuses p (W5 i) = On (L .tree .top p) i × Counts L statuses p (suc i)
+    × ((statuses (L .tree .node p i) ≡ WAIT) ⊎ ((statuses (L .tree .node p i) ≡ tell i) ⊎ Counts L statuses p 1))
+Sound L statuses p (W6 i) = Counts L statuses p (suc i)
+Sound L statuses p (W7 n) = Counts L statuses p 1
+Sound L statuses p (W8 n) = Counts L statuses p 1
+Sound L statuses p (W9 n a) = Counts L statuses p 1
+Sound L statuses p (U1 i) = (2 ≤ i) × (i ≤ L .tree .top p) × Counts L statuses p 1
+Sound L statuses p (U2 i n) = (2 ≤ i) × (i ≤ L .tree .top p) × Counts L statuses p 1
+Sound L statuses p (U3 i t n) = (n ≤ 1000) × Counts L statuses p 1
+Sound L statuses p U4 = Counts L statuses p 1
+Sound L statuses p (U5 n) = Counts L statuses p 1
+Sound L statuses p (U6 n) = Counts L statuses p 1
+Sound L statuses p (U7 n a) = Counts L statuses p 1
+Sound L statuses p (U8 i) = Unit {0}
+Sound L statuses p (U9 i t) = Unit {0}
+Sound L statuses p (U10 i) = Unit {0}
+Sound L statuses p R1 = Unit {0}
+Sound L statuses p R2 = Unit {0}
+Sound L statuses p R3 = Unit {0}
+Sound L statuses p R4 = Unit {0}
+Sound L statuses p R5 = Unit {0}
+Sound L statuses p (R6 n) = Unit {0}
+Sound L statuses p R7 = Unit {0}
+Sound L statuses p writes = Counts L statuses p 1
+Sound L statuses p reads = Unit {0}
 
 pub record Fine (L : Plan) (s : Lock) : Type 0 where
   pub queues : Inv (L .tree) (view (L .tree) s)
-  pub sound : (p : ℕ) → Sound L (s .st) p (s .place p)
+  pub sound : (p : ℕ) → Sound L (s .statuses) p (s .place p)

@@ -36,8 +36,8 @@ Accepts L s p (W2 i) = On (L .tree .top p) i
 Accepts L s p (W3 i) = On (L .tree .top p) i
 Accepts L s p (W4 i t) = On (L .tree .top p) i × Node (L .tree) t
 Accepts L s p (W5 i) = On (L .tree .top p) i
-    × ((s .st (L .tree .node p i) ≡ WAIT)
-    ⊎ ((s .st (L .tree .node p i) ≡ tell i) ⊎ (s .st (L .tree .node p i) ≤ 1000)))
+    × ((s .statuses (L .tree .node p i) ≡ WAIT)
+    ⊎ ((s .statuses (L .tree .node p i) ≡ tell i) ⊎ (s .statuses (L .tree .node p i) ≤ 1000)))
 Accepts L s p (W6 i) = On (L .tree .top p) i
 Accepts L s p (W7 k) = k < L .counters
 Accepts L s p (W8 k) = k < L .counters
@@ -118,8 +118,8 @@ Plays P L s (m ∷ ms) = Accepted P L s m × Plays P L (act L s m) ms
 
 pub record AtRest (P : ℕ) (L : Plan) (s : Lock) : Type 0 where
   pub idles : (p : ℕ) → On P p → s .place p ≡ idle
-  pub tails : (k : ℕ) → s .tl k ≡ 0
-  pub counts : (c : ℕ) → c < L .counters → s .ar c ≡ s .de c
+  pub tails : (k : ℕ) → s .tails k ≡ 0
+  pub counts : (c : ℕ) → c < L .counters → s .arrives c ≡ s .departs c
 
 -- what a plan says besides
 pub record Apt (P : ℕ) (L : Plan) : Type 0 where

@@ -105,11 +105,17 @@ Within C writes = Unit {0}
 Within C reads = Unit {0}
 
 abbrev pub gate : Tree → Lock → ℕ → Gate
-gate T s p = gateOf (s .place p) (s .st (T .node p (at-level (s .place p))))
+gate T s p = gateOf (s .place p) (s .statuses (T .node p (at-level (s .place p))))
 
 abbrev pub tally : Plan → Lock → (ℕ → ℕ) → Tally
 tally L s bit =
-    record { load = λ p. loadOf (L .home p) (s .place p); gate = gate (L .tree) s; ar = s .ar; de = s .de; bit = bit }
+    record {
+      load = λ p. loadOf (L .home p) (s .place p);
+      gate = gate (L .tree) s;
+      arrives = s .arrives;
+      departs = s .departs;
+      bit = bit;
+    }
 
 pub record Safe (P : ℕ) (L : Plan) (s : Lock) (bit : ℕ → ℕ) : Type 0 where
   pub fine : Fine L s
