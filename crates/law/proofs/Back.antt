@@ -17,8 +17,8 @@ use Rattle.places.specs.declared.place.Standing.the-variants.{UnderWay}
 use Rattle.places.specs.declared.record.Record.{Record}
 use Rattle.lock.specs.Turns.{exit-of}
 use Rattle.queues.specs.Machine.{On}
-use Rattle.queues.specs.Rows.{Place, idle, W1, W2, W3, W4, W5, W6, W7, W8, W9, U1, U2, U3, U4, U5, U6, U7, U8, U9, U10}
-use Rattle.queues.specs.Rows.{R1, R2, R3, R4, R5, R6, R7, writes, reads, Plan, Lock, go, row}
+use Rattle.queues.specs.Rows.{Place, Idle, W1, W2, W3, W4, W5, W6, W7, W8, W9, U1, U2, U3, U4, U5, U6, U7, U8, U9, U10}
+use Rattle.queues.specs.Rows.{R1, R2, R3, R4, R5, R6, R7, Writer, Reader, Plan, Lock, go, row}
 use Rattle.queues.specs.Way.{Accepted, Accepts, AtRest, In, Leave as leave-move, Move, Step as step-move, act, exit}
 use Rattle.queues.proofs.Home.{Good}
 use Rattle.queues.proofs.Onto.{Oks, back-onto, calls}
@@ -65,9 +65,9 @@ Shown t b s = (bit : ℕ → ℕ) × Holds t (b .at .words) (b .at .records) (b 
 
 -- a step that the machine accepts is one of a rank under way
 under-way : (L : Plan) (s : Lock) (p : ℕ) (f : Place) → Accepts L s p f → standing-at f ≡ UnderWay
-under-way L s p idle a = absurd a
-under-way L s p writes a = absurd a
-under-way L s p reads a = absurd a
+under-way L s p Idle a = absurd a
+under-way L s p Writer a = absurd a
+under-way L s p Reader a = absurd a
 under-way L s p (W1 i) a = refl
 under-way L s p (W2 i) a = refl
 under-way L s p (W3 i) a = refl
@@ -95,7 +95,7 @@ under-way L s p R5 a = refl
 under-way L s p (R6 n) a = refl
 under-way L s p R7 a = refl
 
-in-is : (f : Place) → In f → (f ≡ writes) ⊎ (f ≡ reads)
+in-is : (f : Place) → In f → (f ≡ Writer) ⊎ (f ≡ Reader)
 in-is f h = grind (arith, tells)
 
 module _ (t : Tree) (G : Geometry t) where
@@ -123,7 +123,7 @@ module _ (t : Tree) (G : Geometry t) where
           Holds t (goes-on t b (leave-move p) .at .words) (goes-on t b (leave-move p) .at .records)
           (goes-on t b (leave-move p) .present) (goes-on t b (leave-move p) .past) s′ bit
 
-      by : (s .place p ≡ writes) ⊎ (s .place p ≡ reads) → Left (go s p (exit L p (s .place p)))
+      by : (s .place p ≡ Writer) ⊎ (s .place p ≡ Reader) → Left (go s p (exit L p (s .place p)))
       by (inl e) =
           let z : exit L p (s .place p) ≡ exit-of t p = ap (exit L p) e ∙ exit-is (own-level t p) in
           subst (λ f. Left (go s p f)) (sym z)

@@ -7,10 +7,9 @@ use native.Mathlib.Omega.{arith}
 use Rattle.std.proofs.shelf.Ways.{tells}
 use Rattle.plan.specs.Trees.{Tree, counters}
 use Rattle.queues.specs.Machine.{On}
-use Rattle.queues.specs.Counters.{total, pick, Load, tries, clears, F, Count}
-use Rattle.queues.specs.Counters
+use Rattle.queues.specs.Counters.{total, pick, Load, tries, admits, clears, write-bit, Count}
 use Rattle.queues.specs.Rows.{Place, U7, R2, R6, Plan, Lock}
-use Rattle.queues.specs.Whole.{Safe, loadOf, gate, tally}
+use Rattle.queues.specs.Whole.{Safe, load-of, gate, tally}
 use Rattle.law.proofs.Bridge.{machine-plan, Geometry}
 use Rattle.queues.proofs.Sum.{total-part, pick-same}
 use Rattle.queues.proofs.Whole.{gate-at}
@@ -29,7 +28,7 @@ module _ (t : Tree) (G : Geometry t) (s : Lock) (bit : ℕ → ℕ) (v : Safe (t
   P = t .shape .ranks
 
   abbrev loads : ℕ → Load
-  loads q = loadOf (machine-plan t .home q) (s .place q)
+  loads q = load-of (machine-plan t .home q) (s .place q)
 
   pub small : (c : ℕ) → c < counters t → (s .arrives c ≤ 2 ^ 62 + 1001024) × (s .departs c ≤ 1000000)
   small c l =
@@ -57,5 +56,5 @@ module _ (t : Tree) (G : Geometry t) (s : Lock) (bit : ℕ → ℕ) (v : Safe (t
       let c = machine-plan t .home p in
       let w : Count P (t .shape .«reader_threshold») (tally (machine-plan t) s bit) c =
       v .counted .each c (G .apt .sensible .homes p) in
-      let z : Counters.reads (loads p) c ≡ n = rw e (pick-same c n) in
-      let t = total-part P (λ q. Counters.reads (loads q) c) p on in omega (arith, G .limit)
+      let z : admits (loads p) c ≡ n = rw e (pick-same c n) in
+      let t = total-part P (λ q. admits (loads q) c) p on in omega (arith, G .limit)

@@ -24,17 +24,17 @@ use Rattle.places.specs.declared.follow.Next.{Next}
 use Rattle.places.specs.declared.record.Record.{Record}
 use Rattle.lock.specs.Outcomes.{Outcome, record-at}
 use Rattle.queues.specs.Machine.{On}
-use Rattle.queues.specs.Rows.{Place, idle, W1, W2, W3, W4, W5, W6, W7, W8, W9, U1, U2, U3, U4, U5, U6, U7, U8, U9, U10}
-use Rattle.queues.specs.Rows.{R1, R2, R3, R4, R5, R6, R7, writes, reads, Plan, Lock}
+use Rattle.queues.specs.Rows.{Place, Idle, W1, W2, W3, W4, W5, W6, W7, W8, W9, U1, U2, U3, U4, U5, U6, U7, U8, U9, U10}
+use Rattle.queues.specs.Rows.{R1, R2, R3, R4, R5, R6, R7, Writer, Reader, Plan, Lock}
 use Rattle.queues.specs.Way.{Apt}
 
 -- a plan as the abstract machine sees it; an element goes by its home
 abbrev pub machine-plan : Tree → Plan
 machine-plan t = record {
-  tree = record { top = own-level t; elem = queue-home t; node = node-home t };
+  tree = record { own-level = own-level t; element = queue-home t; node = node-home t };
   counters = counters t;
-  TR = t .shape .«reader_threshold»;
-  cap = λ p j. cond (eqb j 1) (t .shape .«writer_threshold» - 1) (threshold t (element-at t p j));
+  reader-threshold = t .shape .«reader_threshold»;
+  hand-over-limit = λ p j. cond (eqb j 1) (t .shape .«writer_threshold» - 1) (threshold t (element-at t p j));
   home = λ p. cond (has-rank t p) (own-counter t p) 0;
 }
 
@@ -93,7 +93,7 @@ pub record Stepped (t : Tree) (s : Lock) (p : ℕ) (f : Place) (o : Outcome) (s�
 
 -- the fields that a place uses are in range
 abbrev pub Ranged : Tree → ℕ → Place → Type 0
-Ranged t p idle = Unit {0}
+Ranged t p Idle = Unit {0}
 Ranged t p (W1 i) = On (own-level t p) i
 Ranged t p (W2 i) = On (own-level t p) i
 Ranged t p (W3 i) = On (own-level t p) i
@@ -120,5 +120,5 @@ Ranged t p R4 = Unit {0}
 Ranged t p R5 = Unit {0}
 Ranged t p (R6 n) = Unit {0}
 Ranged t p R7 = Unit {0}
-Ranged t p writes = Unit {0}
-Ranged t p reads = Unit {0}
+Ranged t p Writer = Unit {0}
+Ranged t p Reader = Unit {0}

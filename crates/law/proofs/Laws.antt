@@ -16,41 +16,44 @@ use Rattle.law.proofs.Levels.{Rooted, Above, climb, lone, above-more}
 
 -- where the ranks hang, and how a tree reads it
 pub record Hung (P E : ℕ) (ps : List ℕ) (lev own : ℕ → ℕ) (T : Tree) : Type 0 where
-  pub rank : (p i : ℕ) → On (T .top p) i → On P p
+  pub rank : (p i : ℕ) → On (T .own-level p) i → On P p
   pub on : (p : ℕ) → On P p → On E (own p)
-  pub level : (p : ℕ) → On P p → lev (own p) ≡ T .top p
-  pub elem : (p i : ℕ) → On (T .top p) i → T .elem p i ≡ climbed ps (T .top p - i) (own p)
-  pub node : (p i : ℕ) → On (T .top p) i → T .node p i ≡ cond (ltb i (T .top p)) (P + T .elem p (i + 1)) p
+  pub level : (p : ℕ) → On P p → lev (own p) ≡ T .own-level p
+  pub element : (p i : ℕ) → On (T .own-level p) i → T .element p i ≡ climbed ps (T .own-level p - i) (own p)
+  pub node : (p i : ℕ) → On (T .own-level p) i
+      → T .node p i ≡ cond (ltb i (T .own-level p)) (P + T .element p (i + 1)) p
 
 module _ (P E N : ℕ) (ps : List ℕ) (lev own : ℕ → ℕ) (T : Tree) (h : Rooted E N ps lev) (u : Hung P E ps lev own T)
   where
-    pub elem-on : (p i : ℕ) → On (T .top p) i → Above E lev (T .top p - i) (own p) (T .elem p i)
-    elem-on p i o = rw (u .elem p i o)
-        (climb E N ps lev h (T .top p - i) (own p) (u .on p (u .rank p i o))
+    pub elem-on : (p i : ℕ) → On (T .own-level p) i → Above E lev (T .own-level p - i) (own p) (T .element p i)
+    elem-on p i o = rw (u .element p i o)
+        (climb E N ps lev h (T .own-level p - i) (own p) (u .on p (u .rank p i o))
         (omega (arith, u .level p (u .rank p i o))))
 
-    pub elem-level : (p i : ℕ) → On (T .top p) i → lev (T .elem p i) ≡ i
+    pub elem-level : (p i : ℕ) → On (T .own-level p) i → lev (T .element p i) ≡ i
     elem-level p i o = omega (arith, elem-on p i o, u .level p (u .rank p i o))
 
-    pub elem-up : (p i j : ℕ) → On (T .top p) i → On (T .top p) j → j ≤ i
-        → T .elem p j ≡ climbed ps (i - j) (T .elem p i)
+    pub elem-up : (p i j : ℕ) → On (T .own-level p) i → On (T .own-level p) j → j ≤ i
+        → T .element p j ≡ climbed ps (i - j) (T .element p i)
     elem-up p i j a b l =
-        let e : T .top p - j ≡ (i - j) + (T .top p - i) = omega arith in
-        rw (u .elem p i a, u .elem p j b, e) (above-more ps (i - j) (T .top p - i) (own p))
+        let e : T .own-level p - j ≡ (i - j) + (T .own-level p - i) = omega arith in
+        rw (u .element p i a, u .element p j b, e) (above-more ps (i - j) (T .own-level p - i) (own p))
 
-    pub node-cases : (p i : ℕ) → On (T .top p) i
-        → ((i ≡ T .top p) × (T .node p i ≡ p)) ⊎ ((i < T .top p) × (T .node p i ≡ P + T .elem p (suc i)))
+    pub node-cases : (p i : ℕ) → On (T .own-level p) i
+        → ((i ≡ T .own-level p) × (T .node p i ≡ p))
+        ⊎ ((i < T .own-level p) × (T .node p i ≡ P + T .element p (suc i)))
     node-cases p i o = let e = rw add-one at (u .node p i o) in grind (arith, tells)
 
-    pub level-of : (p r i j : ℕ) → On (T .top p) i → On (T .top r) j → T .elem p i ≡ T .elem r j → i ≡ j
+    pub level-of : (p r i j : ℕ) → On (T .own-level p) i → On (T .own-level r) j → T .element p i ≡ T .element r j
+        → i ≡ j
     level-of p r i j a b e = sym (elem-level p i a) ∙ ap lev e ∙ elem-level r j b
 
-    pub above : (p r i j : ℕ) → On (T .top p) i → On (T .top r) i → On (T .top p) j → j ≤ i → T .elem p i ≡ T .elem r i
-        → T .elem p j ≡ T .elem r j
+    pub above : (p r i j : ℕ) → On (T .own-level p) i → On (T .own-level r) i → On (T .own-level p) j → j ≤ i
+        → T .element p i ≡ T .element r i → T .element p j ≡ T .element r j
     above p r i j a b c l e = elem-up p i j a c l ∙ ap (climbed ps (i - j)) e ∙ sym (elem-up r i j b (omega arith) l)
 
-    pub queue-of : (p r i j : ℕ) → On (T .top p) i → On (T .top r) j → T .node p i ≡ T .node r j
-        → (i ≡ j) × (T .elem p i ≡ T .elem r j)
+    pub queue-of : (p r i j : ℕ) → On (T .own-level p) i → On (T .own-level r) j → T .node p i ≡ T .node r j
+        → (i ≡ j) × (T .element p i ≡ T .element r j)
     queue-of p r i j a b e =
         let c = node-cases p i a in
         let d = node-cases r j b in
@@ -64,18 +67,18 @@ module _ (P E N : ℕ) (ps : List ℕ) (lev own : ℕ → ℕ) (T : Tree) (h : R
           above p r (suc i) i,
         )
 
-    pub below : (p r i : ℕ) → On (T .top p) i → On (T .top r) i → T .node p i ≡ T .node r i
-        → (p ≡ r) ⊎ ((i < T .top p) × (i < T .top r) × (T .elem p (suc i) ≡ T .elem r (suc i)))
+    pub below : (p r i : ℕ) → On (T .own-level p) i → On (T .own-level r) i → T .node p i ≡ T .node r i
+        → (p ≡ r) ⊎ ((i < T .own-level p) × (i < T .own-level r) × (T .element p (suc i) ≡ T .element r (suc i)))
     below p r i a b e = grind
         (arith, node-cases p i a, node-cases r i b, elem-on p (suc i), elem-on r (suc i), u .rank p i a, u .rank r i b)
 
-    pub shared : (p r i : ℕ) → On (T .top p) i → i < T .top p → i < T .top r → T .elem p (suc i) ≡ T .elem r (suc i)
-        → T .node p i ≡ T .node r i
+    pub shared : (p r i : ℕ) → On (T .own-level p) i → i < T .own-level p → i < T .own-level r
+        → T .element p (suc i) ≡ T .element r (suc i) → T .node p i ≡ T .node r i
     shared p r i a b c e =
-        let f : On (T .top r) i = omega arith in
+        let f : On (T .own-level r) i = omega arith in
         grind (arith, node-cases p i a, node-cases r i f)
 
-    pub no-zero : (p i : ℕ) → On (T .top p) i → T .node p i ≢ 0
+    pub no-zero : (p i : ℕ) → On (T .own-level p) i → T .node p i ≢ 0
     no-zero p i a = grind (arith, node-cases p i a, u .rank p i a, elem-on p (suc i))
 
     pub lawful : Lawful T
@@ -89,7 +92,7 @@ module _ (P E N : ℕ) (ps : List ℕ) (lev own : ℕ → ℕ) (T : Tree) (h : R
           no-zero = no-zero;
         }
 
-    pub own-level : (p : ℕ) → On P p → On N (T .top p)
+    pub own-level : (p : ℕ) → On P p → On N (T .own-level p)
     own-level p o = omega (arith, u .level p o, h .low (own p) (u .on p o))
 
     pub sized : Sized P E N T
@@ -99,9 +102,9 @@ module _ (P E N : ℕ) (ps : List ℕ) (lev own : ℕ → ℕ) (T : Tree) (h : R
           rank = u .rank;
           none = λ p n. grind (arith, u .rank p 1);
           some = λ p o. own-level p o .from;
-          root = λ p o. lone E N ps lev h (T .elem p 1) (elem-on p 1 o .on) (elem-level p 1 o);
-          elem = λ p i o. elem-on p i o .on;
+          root = λ p o. lone E N ps lev h (T .element p 1) (elem-on p 1 o .on) (elem-level p 1 o);
+          element = λ p i o. elem-on p i o .on;
           node = λ p i o. grind (arith, node-cases p i o, u .rank p i o, elem-on p (suc i));
-          home = λ p o. grind (arith, node-cases p (T .top p), own-level p o);
+          home = λ p o. grind (arith, node-cases p (T .own-level p), own-level p o);
           between = λ p i o l. grind (arith, node-cases p i o);
         }

@@ -36,12 +36,13 @@ use Rattle.places.specs.declared.record.Record.{Record}
 use Rattle.lock.specs.Outcomes.{Outcome, placed, refused}
 use Rattle.lock.specs.Steps.{followed, row-next, row-words, stepped-from, stepped-to}
 use Rattle.queues.specs.Machine.{On}
-use Rattle.queues.specs.Rows.{Place, idle, W1, W2, W3, W4, W5, W6, W7, W8, W9, U1, U2, U3, U4, U5, U6, U7, U8, U9, U10}
-use Rattle.queues.specs.Rows.{R1, R2, R3, R4, R5, R6, R7, writes, reads, WAIT, tell, Plan, Lock, upd, go, put-next}
+use Rattle.queues.specs.Rows.{Place, Idle, W1, W2, W3, W4, W5, W6, W7, W8, W9, U1, U2, U3, U4, U5, U6, U7, U8, U9, U10}
+use Rattle.queues.specs.Rows.{R1, R2, R3, R4, R5, R6, R7, Writer, Reader, WAIT, told-status, Plan, Lock, upd, go}
+use Rattle.queues.specs.Rows.{put-next}
 use Rattle.queues.specs.Rows.{put-status}
 use Rattle.queues.specs.Rows.{put-arrive, put-depart, join, drop, free, done, next, row, Sound, Counts}
 use Rattle.queues.specs.Whole.{Safe}
-use Rattle.queues.proofs.View.{upd-same, upd-other, tell-big}
+use Rattle.queues.proofs.View.{upd-same, upd-other, told-large}
 use Rattle.law.proofs.Bridge.{machine-plan, Geometry, Ranged, Shows, Stepped, Goes, gives, effect}
 use Rattle.law.proofs.Shows.{done-by, shows-next, shows-status, shows-join, shows-free, shows-drop, shows-go}
 use Rattle.law.proofs.Shows.{shows-stay}
@@ -65,7 +66,7 @@ goes-next : (C k : ℕ) (f : ℕ → Place) (x : Result Next Refusal) (e : Place
     → Goes (cond (ltb (k + 1) C) (moves (f (k + 1))) x) (cond (ltb (suc k) C) (f (suc k)) e)
 goes-next C k f x e m = rw (add-one k) (both (ltb (suc k) C) (moves (f (suc k))) x (f (suc k)) e (Moved, refl) m)
 
-goes-done : (N i : ℕ) → i ≤ N → Goes (cond (ltb i N) (moves (U8 (i + 1))) rests) (cond (eqb i N) idle (U8 (suc i)))
+goes-done : (N i : ℕ) → i ≤ N → Goes (cond (ltb i N) (moves (U8 (i + 1))) rests) (cond (eqb i N) Idle (U8 (suc i)))
 goes-done N i o = (cond (ltb i N) Moved Free, grind (arith, tells))
 
 goes-U2 : (i n y c : ℕ)
@@ -93,24 +94,24 @@ goes-U5 n y c = (Moved, rw (add-one n) (by (eqb y 0) (ltb n c)))
 goes-wait : (t : Tree) (p i w : ℕ) → w ≡ WAIT → Goes (next-of t p (W5 i) w) (W5 i)
 goes-wait t p i w e = (Waiting, rw (eq-eqb w WAIT e))
 
-goes-told : (t : Tree) (p i w : ℕ) → 1 ≤ i → w ≡ tell i → Goes (next-of t p (W5 i) w) (W6 i)
+goes-told : (t : Tree) (p i w : ℕ) → 1 ≤ i → w ≡ told-status i → Goes (next-of t p (W5 i) w) (W6 i)
 goes-told t p i w o e = (Moved, grind (arith, tells))
 
-goes-count : (t : Tree) (p i w : ℕ) → w ≤ 1000 → Goes (next-of t p (W5 i) w) writes
+goes-count : (t : Tree) (p i w : ℕ) → w ≤ 1000 → Goes (next-of t p (W5 i) w) Writer
 goes-count t p i w m = (Entered, grind (arith, tells))
 
 w5-waits : (a b d : Lock) (w i : ℕ) → w ≡ WAIT
-    → cond (eqb w WAIT) a (cond (leb w 1000) b (cond (eqb w (tell i)) d a)) ≡ a
+    → cond (eqb w WAIT) a (cond (leb w 1000) b (cond (eqb w (told-status i)) d a)) ≡ a
 w5-waits a b d w i e = rw (eq-eqb w WAIT e)
 
 w5-counts : (a b d : Lock) (w i : ℕ) → w ≤ 1000
-    → cond (eqb w WAIT) a (cond (leb w 1000) b (cond (eqb w (tell i)) d a)) ≡ b
+    → cond (eqb w WAIT) a (cond (leb w 1000) b (cond (eqb w (told-status i)) d a)) ≡ b
 w5-counts a b d w i e = rw (ne-eqb w WAIT (omega arith), le-leb w 1000 e)
 
-w5-told : (a b d : Lock) (w i : ℕ) → w ≡ tell i
-    → cond (eqb w WAIT) a (cond (leb w 1000) b (cond (eqb w (tell i)) d a)) ≡ d
+w5-told : (a b d : Lock) (w i : ℕ) → w ≡ told-status i
+    → cond (eqb w WAIT) a (cond (leb w 1000) b (cond (eqb w (told-status i)) d a)) ≡ d
 w5-told a b d w i e =
-    let z = tell-big i in rw (ne-eqb w WAIT (omega arith), lt-leb w 1000 (omega arith), eq-eqb w (tell i) e)
+    let z = told-large i in rw (ne-eqb w WAIT (omega arith), lt-leb w 1000 (omega arith), eq-eqb w (told-status i) e)
 
 module _ (t : Tree) (G : Geometry t) (ws : Words) (rs : List Record) (s : Lock) (bit : ℕ → ℕ)
     (v : Safe (t .shape .ranks) (machine-plan t) s bit) (h : Shows t ws rs s) (p : ℕ) (on : On (t .shape .ranks) p)
@@ -230,19 +231,20 @@ module _ (t : Tree) (G : Geometry t) (ws : Words) (rs : List Record) (s : Lock) 
         moves-on g n z = subst (Stepped t s p (W5 i) (stepped-from t ws rs p (Some (W5 i)))) (sym z)
             (reads-status (W5 i) i refl at g n)
 
-        by : (s .statuses (x i) ≡ WAIT) ⊎ ((s .statuses (x i) ≡ tell i) ⊎ Counts L (s .statuses) p 1) → Lifts (W5 i)
+        by : (s .statuses (x i) ≡ WAIT) ⊎ ((s .statuses (x i) ≡ told-status i) ⊎ Counts L (s .statuses) p 1)
+            → Lifts (W5 i)
         by (inl z) = subst (Stepped t s p (W5 i) (stepped-from t ws rs p (Some (W5 i))))
-            (sym (w5-waits s (go s p writes) (go s p (W6 i)) (s .statuses (x i)) i z))
+            (sym (w5-waits s (go s p Writer) (go s p (W6 i)) (s .statuses (x i)) i z))
             (carries (W5 i) (x i) 1 Get refl at refl (s .statuses (x i)) (h .statuses (x i) at) (W5 i)
             (goes-wait t p i (s .statuses (x i)) z) s e
             (λ q ne. refl)
             (shows-stay t ws rs s h p on (W5 i) e))
         by (inr (inl z)) = moves-on (W6 i) (goes-told t p i (s .statuses (x i)) (o .from) z)
-            (w5-told s (go s p writes) (go s p (W6 i)) (s .statuses (x i)) i z)
+            (w5-told s (go s p Writer) (go s p (W6 i)) (s .statuses (x i)) i z)
         by (inr (inr z)) =
             let m : s .statuses (x i) ≤ 1000 = z i (o .from) (o .upto) in
-            moves-on writes (goes-count t p i (s .statuses (x i)) m)
-            (w5-counts s (go s p writes) (go s p (W6 i)) (s .statuses (x i)) i m)
+            moves-on Writer (goes-count t p i (s .statuses (x i)) m)
+            (w5-counts s (go s p Writer) (go s p (W6 i)) (s .statuses (x i)) i m)
 
     lift-U10 : (i : ℕ) → s .place p ≡ U10 i → Lifts (U10 i)
     lift-U10 i e = by (eqb (s .tails (q i)) (x i)) refl
@@ -268,7 +270,7 @@ module _ (t : Tree) (G : Geometry t) (ws : Words) (rs : List Record) (s : Lock) 
 
     -- every step
     pub lifted : (f : Place) → s .place p ≡ f → Lifts f ⊎ NoMore f
-    lifted idle e = inr ((λ z. let y : _≡_ {A = ℕ} 0 1 = cc in omega arith), refl)
+    lifted Idle e = inr ((λ z. let y : _≡_ {A = ℕ} 0 1 = cc in omega arith), refl)
     lifted (W1 i) e = inl
         (carried (W1 i) (x i) 0 (Put 0) refl (re (W1 i) e) refl 0 refl _ (Moved, refl) _ refl
         (shows-next t ws rs s h (x i) 0))
@@ -307,7 +309,7 @@ module _ (t : Tree) (G : Geometry t) (ws : Words) (rs : List Record) (s : Lock) 
     lifted (U1 i) e = inl (reads-status (U1 i) i refl (re (U1 i) e) _ (Moved, refl))
     lifted (U2 i n) e =
         let c = threshold t (element-at t p i) in
-        let z : L .cap p i ≡ c =
+        let z : L .hand-over-limit p i ≡ c =
         ap (λ b. cond b (t .shape .«writer_threshold» - 1) c) (ne-eqb i 1 (omega (arith, rg (U2 i n) e))) in
         inl
         (reads-next (U2 i n) i refl (re (U2 i n) e) _
@@ -335,21 +337,22 @@ module _ (t : Tree) (G : Geometry t) (ws : Words) (rs : List Record) (s : Lock) 
     lifted (U8 i) e = inl
         (reads-next (U8 i) i refl (re (U8 i) e) _ (both (eqb (s .nexts (x i)) 0) _ _ _ _ (Moved, refl) (Moved, refl)))
     lifted (U9 i y) e = inl
-        (carried (U9 i y) y 1 (Put (tell i)) refl (re (U9 i y) e) refl 0 refl _ (goes-down i (rg (U9 i y) e .0)) _ refl
-        (shows-drop t (storing ws y 1 (tell i)) rs (put-status s y (tell i)) (shows-status t ws rs s h y (tell i))
-        (q i)))
+        (carried (U9 i y) y 1 (Put (told-status i)) refl (re (U9 i y) e) refl 0 refl _
+        (goes-down i (rg (U9 i y) e .0)) _ refl
+        (shows-drop t (storing ws y 1 (told-status i)) rs (put-status s y (told-status i))
+        (shows-status t ws rs s h y (told-status i)) (q i)))
     lifted (U10 i) e = inl (lift-U10 i e)
     lifted R1 e = inl
         (adds-arrive R1 c 1 (suc (s .arrives c)) c-in (ap (λ y. Some (access y 3 (Add 1))) own-is)
         (omega (arith, small t G s bit v c c-in)) _
-        (both (ltb (s .arrives c) (L .TR)) _ _ _ _ (Entered, refl) (Moved, refl)))
+        (both (ltb (s .arrives c) (L .reader-threshold)) _ _ _ _ (Entered, refl) (Moved, refl)))
     lifted R2 e = inl
         (adds-arrive R2 c (minus 1) (pred (s .arrives c)) c-in (ap (λ y. Some (access y 3 (Add (minus 1)))) own-is)
         (omega (arith, small t G s bit v c c-in, at-R2 t G s bit v p on e)) _ (Moved, refl))
     lifted R3 e = inl
         (carried R3 (counter-home t c) 3 Get (ap (λ y. Some (access y 3 Get)) own-is) own-at refl (s .arrives c)
         (h .arrives c c-in) _
-        (both (ltb (s .arrives c) (L .TR)) _ _ _ _ (Moved, refl)
+        (both (ltb (s .arrives c) (L .reader-threshold)) _ _ _ _ (Moved, refl)
         (both (leb write-bit (s .arrives c)) _ _ _ _ (Waiting, refl) (Moved, refl)))
         s refl h)
     lifted R4 e = inl
@@ -365,5 +368,5 @@ module _ (t : Tree) (G : Geometry t) (ws : Words) (rs : List Record) (s : Lock) 
         (s .departs c) (h .departs c c-in) _ (Free, refl) _ refl
         (shows-depart t ws rs s h (G .counter-one) c ((ws .word (counter-home t c) 4 + 1) % 2 ^ 64)
         (suc (s .departs c)) (omega (arith, h .departs c c-in, small t G s bit v c c-in))))
-    lifted writes e = inr ((λ z. let y : _≡_ {A = ℕ} 0 1 = cc in omega arith), refl)
-    lifted reads e = inr ((λ z. let y : _≡_ {A = ℕ} 0 1 = cc in omega arith), refl)
+    lifted Writer e = inr ((λ z. let y : _≡_ {A = ℕ} 0 1 = cc in omega arith), refl)
+    lifted Reader e = inr ((λ z. let y : _≡_ {A = ℕ} 0 1 = cc in omega arith), refl)

@@ -11,13 +11,13 @@ use Rattle.plan.specs.Trees.{Tree}
 use Rattle.places.specs.Table.{next-of}
 use Rattle.places.specs.declared.answer.Answer.{Answer}
 use Rattle.places.specs.declared.follow.Next.{Next}
-use Rattle.queues.specs.Rows.{Place, idle, W1, W2, W3, W4, W5, W6, W7, W8, W9, U1, U2, U3, U4, U5, U6, U7, U8, U9, U10}
-use Rattle.queues.specs.Rows.{R1, R2, R3, R4, R5, R6, R7, writes, reads}
+use Rattle.queues.specs.Rows.{Place, Idle, W1, W2, W3, W4, W5, W6, W7, W8, W9, U1, U2, U3, U4, U5, U6, U7, U8, U9, U10}
+use Rattle.queues.specs.Rows.{R1, R2, R3, R4, R5, R6, R7, Writer, Reader}
 use Rattle.law.specs.Presence.{Role, writer, reader, is-entered, is-free}
 
 -- a rank at a place, of a role, inside or not
 abbrev pub Link : Place → Role → Bool → Type 0
-Link idle r b = b ≡ false
+Link Idle r b = b ≡ false
 Link (W1 i) r b = (b ≡ false) × (r ≡ writer)
 Link (W2 i) r b = (b ≡ false) × (r ≡ writer)
 Link (W3 i) r b = (b ≡ false) × (r ≡ writer)
@@ -44,8 +44,8 @@ Link R4 r b = (b ≡ false) × (r ≡ reader)
 Link R5 r b = (b ≡ false) × (r ≡ reader)
 Link (R6 n) r b = (b ≡ false) × (r ≡ reader)
 Link R7 r b = b ≡ false
-Link writes r b = (b ≡ true) × (r ≡ writer)
-Link reads r b = (b ≡ true) × (r ≡ reader)
+Link Writer r b = (b ≡ true) × (r ≡ writer)
+Link Reader r b = (b ≡ true) × (r ≡ reader)
 
 -- after a row of the table
 abbrev pub Linked : Result Next Refusal → Role → Bool → Type 0
@@ -53,7 +53,7 @@ Linked (Err e) r b = Unit {0}
 Linked (Ok m) r b = Link (m .place) r (cond (is-entered (m .answer)) true b)
 
 pub linked : (t : Tree) (p : ℕ) (r : Role) (b : Bool) (f : Place) (w : ℕ) → Link f r b → Linked (next-of t p f w) r b
-linked t p r b idle w k = tt
+linked t p r b Idle w k = tt
 linked t p r b (W1 i) w k = k
 linked t p r b (W2 i) w k = k
 linked t p r b (W3 i) w k = grind arith
@@ -80,23 +80,23 @@ linked t p r b R4 w k = grind arith
 linked t p r b R5 w k = k
 linked t p r b (R6 n) w k = k
 linked t p r b R7 w k = k
-linked t p r b writes w k = tt
-linked t p r b reads w k = tt
+linked t p r b Writer w k = tt
+linked t p r b Reader w k = tt
 
 -- who is inside as a writer is at the writer's place
-pub at-writes : (f : Place) (r : Role) (b : Bool) → Link f r b → b ≡ true → r ≡ writer → f ≡ writes
+pub at-writes : (f : Place) (r : Role) (b : Bool) → Link f r b → b ≡ true → r ≡ writer → f ≡ Writer
 at-writes f r b k e d = grind arith
 
-pub at-inside : (f : Place) (r : Role) (b : Bool) → Link f r b → b ≡ true → (f ≡ writes) ⊎ (f ≡ reads)
+pub at-inside : (f : Place) (r : Role) (b : Bool) → Link f r b → b ≡ true → (f ≡ Writer) ⊎ (f ≡ Reader)
 at-inside f r b k e = grind arith
 
 -- who answers free is idle, and who steps was not
 abbrev pub Rests : Bool → Result Next Refusal → Type 0
 Rests n (Err e) = Unit {0}
-Rests n (Ok m) = cond (is-free (m .answer)) true n ≡ true → m .place ≡ idle
+Rests n (Ok m) = cond (is-free (m .answer)) true n ≡ true → m .place ≡ Idle
 
-pub rested : (t : Tree) (p : ℕ) (n : Bool) (f : Place) (w : ℕ) → (n ≡ true → f ≡ idle) → Rests n (next-of t p f w)
-rested t p n idle w h = grind arith
+pub rested : (t : Tree) (p : ℕ) (n : Bool) (f : Place) (w : ℕ) → (n ≡ true → f ≡ Idle) → Rests n (next-of t p f w)
+rested t p n Idle w h = grind arith
 rested t p n (W1 i) w h = grind arith
 rested t p n (W2 i) w h = grind arith
 rested t p n (W3 i) w h = grind arith
@@ -123,16 +123,16 @@ rested t p n R4 w h = grind arith
 rested t p n R5 w h = grind arith
 rested t p n (R6 m) w h = grind arith
 rested t p n R7 w h = grind arith
-rested t p n writes w h = grind arith
-rested t p n reads w h = grind arith
+rested t p n Writer w h = grind arith
+rested t p n Reader w h = grind arith
 
 -- and who becomes idle answers free
 abbrev pub Frees : Bool → Result Next Refusal → Type 0
 Frees n (Err e) = Unit {0}
-Frees n (Ok m) = m .place ≡ idle → cond (is-free (m .answer)) true n ≡ true
+Frees n (Ok m) = m .place ≡ Idle → cond (is-free (m .answer)) true n ≡ true
 
 pub freed : (t : Tree) (p : ℕ) (n : Bool) (f : Place) (w : ℕ) → Frees n (next-of t p f w)
-freed t p n idle w = grind arith
+freed t p n Idle w = grind arith
 freed t p n (W1 i) w = grind arith
 freed t p n (W2 i) w = grind arith
 freed t p n (W3 i) w = grind arith
@@ -159,5 +159,5 @@ freed t p n R4 w = grind arith
 freed t p n R5 w = grind arith
 freed t p n (R6 m) w = grind arith
 freed t p n R7 w = grind arith
-freed t p n writes w = grind arith
-freed t p n reads w = grind arith
+freed t p n Writer w = grind arith
+freed t p n Reader w = grind arith

@@ -12,9 +12,10 @@ use Rattle.std.proofs.shelf.Tests.{cases-eq, eqb-true}
 use Rattle.memory.specs.Words.{Words}
 use Rattle.plan.specs.Trees.{Tree, node-home, own-level, queue-home}
 use Rattle.places.specs.declared.record.Record.{Record}
-use Rattle.queues.specs.Machine.{Tree as Machine-tree, On, Inv, Heads, hold, give, level, InRange}
-use Rattle.queues.specs.Rows.{Place, idle, W1, W2, W3, W4, W5, W6, W7, W8, W9, U1, U2, U3, U4, U5, U6, U7, U8, U9}
-use Rattle.queues.specs.Rows.{U10, R1, R2, R3, R4, R5, R6, R7, writes, reads, WAIT, tell, Plan, Lock, go, free, done}
+use Rattle.queues.specs.Machine.{Tree as Machine-tree, On, Inv, Heads, hold, give, hold-level, InRange}
+use Rattle.queues.specs.Rows.{Place, Idle, W1, W2, W3, W4, W5, W6, W7, W8, W9, U1, U2, U3, U4, U5, U6, U7, U8, U9}
+use Rattle.queues.specs.Rows.{U10, R1, R2, R3, R4, R5, R6, R7, Writer, Reader, WAIT, told-status, Plan, Lock, go}
+use Rattle.queues.specs.Rows.{free, done}
 use Rattle.queues.specs.Rows.{row, upd, view, phase}
 use Rattle.queues.specs.Whole.{Safe}
 use Rattle.law.proofs.Bridge.{machine-plan, Geometry, Shows}
@@ -46,7 +47,7 @@ module _ (t : Tree) (G : Geometry t) (ws : Words) (rs : List Record) (s : Lock) 
   full k l e =
       let o =
       occupant T (G .apt .sensible .tree) (view T s) inv k (pred (s .next-turn k)) (omega arith) (omega arith) in
-      G .apt .sensible .tree .no-zero (o .rank) (o .lvl) (o .on) (sym (o .is) ∙ (sym (last-is k l) ∙ e))
+      G .apt .sensible .tree .no-zero (o .rank) (o .level) (o .on) (sym (o .is) ∙ (sym (last-is k l) ∙ e))
 
   empty : (k : ℕ) → s .tails k ≡ 0 → s .head-turn k ≡ s .next-turn k
   empty k e = ⊎-elim
@@ -73,8 +74,8 @@ module _ (t : Tree) (G : Geometry t) (ws : Words) (rs : List Record) (s : Lock) 
       })
   hands b i y e =
       let n = successor T (G .apt .sensible .tree) (view T s) inv p b i y e in
-      let r = range-of (phase T s p) (T .top p) (inv .range p) (give b i y) e in
-      let l : level (T .top p) (phase T s p) ≡ b = ap (level (T .top p)) e in
+      let r = range-of (phase T s p) (T .own-level p) (inv .range p) (give b i y) e in
+      let l : hold-level (T .own-level p) (phase T s p) ≡ b = ap (hold-level (T .own-level p)) e in
       let w = inv .heads p i (omega arith) (omega arith) in
       traces-pass (s .node-at) (s .head-turn) (s .next-turn) h tr (queue-home t p i) (inv .order (queue-home t p i))
       (node-home t p i) y (n .more) (w .is) (n .is ∙ sym (n .target))
@@ -104,8 +105,8 @@ module _ (t : Tree) (G : Geometry t) (ws : Words) (rs : List Record) (s : Lock) 
           })
       by false z = record { joined = tr .joined; came = tr .came; gone = tr .gone }
       by true z =
-          let r = range-of (phase T s p) (T .top p) (inv .range p) (hold i) was in
-          let l : level (T .top p) (phase T s p) ≡ i = ap (level (T .top p)) was in
+          let r = range-of (phase T s p) (T .own-level p) (inv .range p) (hold i) was in
+          let l : hold-level (T .own-level p) (phase T s p) ≡ i = ap (hold-level (T .own-level p)) was in
           let w : Heads T (view T s) p i = inv .heads p i r (omega arith) in
           let y : pred (s .next-turn k) ≡ s .head-turn k =
           inv .once k (pred (s .next-turn k)) (s .head-turn k) (omega (arith, w .some)) (omega (arith, w .some))
@@ -116,16 +117,16 @@ module _ (t : Tree) (G : Geometry t) (ws : Words) (rs : List Record) (s : Lock) 
 
   waits : (i : ℕ) → Traced (row L s p (W5 i)) h
   waits i = by (eqb (s .statuses (node-home t p i)) WAIT) (leb (s .statuses (node-home t p i)) 1000)
-      (eqb (s .statuses (node-home t p i)) (tell i))
+      (eqb (s .statuses (node-home t p i)) (told-status i))
     where
-      by : (a b c : Bool) → Traced (cond a s (cond b (go s p writes) (cond c (go s p (W6 i)) s))) h
+      by : (a b c : Bool) → Traced (cond a s (cond b (go s p Writer) (cond c (go s p (W6 i)) s))) h
       by true b c = tr
       by false true c = tr
       by false false true = tr
       by false false false = tr
 
   pub traced : (f : Place) → s .place p ≡ f → Traced (row L s p f) (adds t ws p h f)
-  traced idle e = tr
+  traced Idle e = tr
   traced (W1 i) e = tr
   traced (W2 i) e = tr
   traced (W3 i) e = subst
@@ -161,5 +162,5 @@ module _ (t : Tree) (G : Geometry t) (ws : Words) (rs : List Record) (s : Lock) 
   traced R5 e = tr
   traced (R6 n) e = tr
   traced R7 e = tr
-  traced writes e = tr
-  traced reads e = tr
+  traced Writer e = tr
+  traced Reader e = tr

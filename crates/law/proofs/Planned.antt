@@ -69,7 +69,7 @@ module _ (t : Tree) (sz : sizes-right t ≡ true) (th : thresholds-right t ≡ t
 
   -- the tree with elements by their numbers
   abbrev by-number : Machine.Tree
-  by-number = record { top = own-level t; elem = element-at t; node = node-home t }
+  by-number = record { own-level = own-level t; element = element-at t; node = node-home t }
 
   parent-at : (k : ℕ) → 2 ≤ k → k ≤ t .shape .elements
       → On (pred k) (parent (t .parents) k) × (level (t .parents) k ≤ N)
@@ -95,7 +95,7 @@ module _ (t : Tree) (sz : sizes-right t ≡ true) (th : thresholds-right t ≡ t
     rank = λ p i. top-rank P p i (level (t .parents) (own p));
     on = λ p o. within-on (t .shape .elements) (own p) (rank-at p o .0);
     level = λ p o. sym (top-some P p (level (t .parents) (own p)) o);
-    elem = λ p i o. refl;
+    element = λ p i o. refl;
     node = λ p i o. refl;
   }
 
@@ -141,7 +141,7 @@ module _ (t : Tree) (sz : sizes-right t ≡ true) (th : thresholds-right t ≡ t
                 λ p j.
                 cap-small (eqb j 1) (t .shape .«writer_threshold» - 1) (threshold t (element-at t p j))
                 (writer-small (t .shape) th) (level-small (t .shape) th (level-of t (element-at t p j)));
-            cap = omega arith;
+            threshold-fits = omega arith;
             ranks = λ p o. sizes .rank p 1 o;
             root = λ p q a b. ap (λ x. P + x) (sizes .root p a ∙ sym (sizes .root q b));
             homes = λ p. homed P p (own-counter t p) (counters t) any (c .own p);
@@ -151,7 +151,7 @@ module _ (t : Tree) (sz : sizes-right t ≡ true) (th : thresholds-right t ≡ t
           less = omega arith;
         };
         node-in = λ p i o. sizes .node p i o;
-        queue-in = λ p i o. let z = sizes .elem p i o in omega arith;
+        queue-in = λ p i o. let z = sizes .element p i o in omega arith;
         root = λ p o. ap (λ x. P + x) (sizes .root p (one p o));
         counter-in = λ k l. let z = c .home k l in omega arith;
         counter-one = c .apart;

@@ -16,9 +16,9 @@ use Rattle.places.specs.declared.access.Access.{Access}
 use Rattle.places.specs.Records.{fits}
 use Rattle.places.specs.Table.{access-of}
 use Rattle.queues.specs.Machine.{Tree as Machine-tree, On, InRange, Inv, link, give, Linking}
-use Rattle.queues.specs.Rows.{Place, idle, W1, W2, W3, W4, W5, W6, W7, W8, W9, U1, U2, U3, U4, U5, U6, U7, U8, U9}
-use Rattle.queues.specs.Rows.{U10, R1, R2, R3, R4, R5, R6, R7, writes, reads, Plan, Lock, view, phase, phaseOf}
-use Rattle.queues.specs.Rows.{at-level, Sound}
+use Rattle.queues.specs.Rows.{Place, Idle, W1, W2, W3, W4, W5, W6, W7, W8, W9, U1, U2, U3, U4, U5, U6, U7, U8, U9}
+use Rattle.queues.specs.Rows.{U10, R1, R2, R3, R4, R5, R6, R7, Writer, Reader, Plan, Lock, view, phase, phase-of}
+use Rattle.queues.specs.Rows.{status-level, Sound}
 use Rattle.queues.specs.Whole.{Safe, Within}
 use Rattle.law.proofs.Bridge.{machine-plan, Geometry, Ranged}
 use Rattle.queues.proofs.Base.{asked, occupant, successor}
@@ -29,7 +29,7 @@ from-on : (low high n : ℕ) → low ≤ n → n ≤ high → within low high n 
 from-on low high n a b = and-from (leb low n) (leb n high) (le-leb low n a) (le-leb n high b)
 
 pub fits-ranged : (t : Tree) (p : ℕ) (f : Place) → Ranged t p f → fits t p f ≡ true
-fits-ranged t p idle r = refl
+fits-ranged t p Idle r = refl
 fits-ranged t p (W1 i) r = from-on 1 (own-level t p) i (r .from) (r .upto)
 fits-ranged t p (W2 i) r = from-on 1 (own-level t p) i (r .from) (r .upto)
 fits-ranged t p (W3 i) r = from-on 1 (own-level t p) i (r .from) (r .upto)
@@ -59,8 +59,8 @@ fits-ranged t p R4 r = refl
 fits-ranged t p R5 r = refl
 fits-ranged t p (R6 n) r = refl
 fits-ranged t p R7 r = refl
-fits-ranged t p writes r = refl
-fits-ranged t p reads r = refl
+fits-ranged t p Writer r = refl
+fits-ranged t p Reader r = refl
 
 -- the homes of a rank's operation
 abbrev pub Reach : Tree → Option Access → Type 0
@@ -77,7 +77,7 @@ module _ (t : Tree) (G : Geometry t) (s : Lock) (bit : ℕ → ℕ) (v : Safe (t
   abbrev inv : Inv T (view T s)
   inv = v .fine .queues
 
-  node-any : (r i : ℕ) → On (T .top r) i → On (homes t) (node-home t r i)
+  node-any : (r i : ℕ) → On (T .own-level r) i → On (homes t) (node-home t r i)
   node-any r i o = G .node-in r i o
 
   next-home : (p h i y : ℕ) → phase T s p ≡ give h i y → On (homes t) y
@@ -89,18 +89,18 @@ module _ (t : Tree) (G : Geometry t) (s : Lock) (bit : ℕ → ℕ) (v : Safe (t
   link-home p i y e =
       let z = asked T (view T s) inv p (link i y) e in
       let o =
-      occupant T (G .apt .sensible .tree) (view T s) inv (T .elem p i) (z .spot .turn) (z .spot .low)
+      occupant T (G .apt .sensible .tree) (view T s) inv (T .element p i) (z .spot .turn) (z .spot .low)
       (omega (arith, z .spot .high)) in
-      subst (On (homes t)) (sym (z .target ∙ o .is)) (node-any (o .rank) (o .lvl) (o .on))
+      subst (On (homes t)) (sym (z .target ∙ o .is)) (node-any (o .rank) (o .level) (o .on))
 
   pub ranged : (p : ℕ) → On (t .shape .ranks) p → (f : Place) → s .place p ≡ f → Ranged t p f
-  ranged p on f e = by f (phase-at T s p f e) (subst (InRange (T .top p)) (phase-at T s p f e) (inv .range p))
+  ranged p on f e = by f (phase-at T s p f e) (subst (InRange (T .own-level p)) (phase-at T s p f e) (inv .range p))
       (subst (Sound L (s .statuses) p) e (v .fine .sound p)) (subst (Within (counters t)) e (v .within p))
     where
-      by : (f : Place) → phase T s p ≡ phaseOf f (s .statuses (T .node p (at-level f)))
-          → InRange (T .top p) (phaseOf f (s .statuses (T .node p (at-level f)))) → Sound L (s .statuses) p f
-          → Within (counters t) f → Ranged t p f
-      by idle z r so w = tt
+      by : (f : Place) → phase T s p ≡ phase-of f (s .statuses (T .node p (status-level f)))
+          → InRange (T .own-level p) (phase-of f (s .statuses (T .node p (status-level f))))
+          → Sound L (s .statuses) p f → Within (counters t) f → Ranged t p f
+      by Idle z r so w = tt
       by (W1 i) z r so w = r
       by (W2 i) z r so w = r
       by (W3 i) z r so w = r
@@ -127,8 +127,8 @@ module _ (t : Tree) (G : Geometry t) (s : Lock) (bit : ℕ → ℕ) (v : Safe (t
       by R5 z r so w = tt
       by (R6 n) z r so w = tt
       by R7 z r so w = tt
-      by writes z r so w = tt
-      by reads z r so w = tt
+      by Writer z r so w = tt
+      by Reader z r so w = tt
 
 -- so the home of its access is one of the lock's
 pub reaches : (t : Tree) → Geometry t → (p : ℕ) → On (t .shape .ranks) p → (f : Place) → Ranged t p f
@@ -148,7 +148,7 @@ reaches t G p on f r = by f r
     root = subst (On (homes t)) (G .root p on) (G .queue-in p 1 one)
 
     by : (f : Place) → Ranged t p f → Reach t (access-of t p f)
-    by idle r = tt
+    by Idle r = tt
     by (W1 i) r = G .node-in p i r
     by (W2 i) r = G .node-in p i r
     by (W3 i) r = G .queue-in p i r
@@ -175,5 +175,5 @@ reaches t G p on f r = by f r
     by R5 r = own
     by (R6 n) r = own
     by R7 r = own
-    by writes r = tt
-    by reads r = tt
+    by Writer r = tt
+    by Reader r = tt

@@ -31,7 +31,7 @@ use Rattle.lock.specs.Outcomes.{Outcome, record-at, refused, roomy}
 use Rattle.lock.specs.Steps.{stepped, stepped-from}
 use Rattle.lock.specs.Turns.{Turn, asked, asked-at, exit-of, left, left-at, turn-from, turn-of, turned, unchanged}
 use Rattle.queues.specs.Machine.{On}
-use Rattle.queues.specs.Rows.{Place, idle, W1, U1, U4, R1, R7, writes, reads, Plan, Lock, go, upd, row}
+use Rattle.queues.specs.Rows.{Place, Idle, W1, U1, U4, R1, R7, Writer, Reader, Plan, Lock, go, upd, row}
 use Rattle.queues.specs.Whole.{Safe}
 use Rattle.queues.specs.Claim.{fresh-lock, Sensible}
 use Rattle.queues.proofs.View.{upd-same, upd-other}
@@ -63,8 +63,8 @@ pub record Holds (t : Tree) (ws : Words) (rs : List Record) (w : Presence) (h : 
   pub shows : Shows t ws rs lock
   pub link : (p : ℕ) → Link (lock .place p) (w .role p) (w .inside p)
   pub ranked : (p : ℕ) → w .inside p ≡ true → On (t .shape .ranks) p
-  pub rest : (p : ℕ) → w .idle p ≡ true → lock .place p ≡ idle
-  pub idles : (p : ℕ) → lock .place p ≡ idle → w .idle p ≡ true
+  pub rest : (p : ℕ) → w .idle p ≡ true → lock .place p ≡ Idle
+  pub idles : (p : ℕ) → lock .place p ≡ Idle → w .idle p ≡ true
   pub trace : Traces (lock .node-at) (lock .head-turn) (lock .next-turn) h
 
 -- and after one of them, with the lock that comes next
@@ -82,20 +82,20 @@ gates a b x y z e d = rw (e, d)
 shut-gate : {A : Type 0} (a b : Bool) (x y z : A) → a ≡ true → b ≡ false → cond a (cond b x y) z ≡ y
 shut-gate a b x y z e d = rw (e, d)
 
-is-idle : (f : Place) → standing-at f ≡ Resting → f ≡ idle
+is-idle : (f : Place) → standing-at f ≡ Resting → f ≡ Idle
 is-idle f e = grind arith
 
-is-writing : (f : Place) → standing-at f ≡ Writing → f ≡ writes
+is-writing : (f : Place) → standing-at f ≡ Writing → f ≡ Writer
 is-writing f e = grind arith
 
-is-reading : (f : Place) → standing-at f ≡ Reading → f ≡ reads
+is-reading : (f : Place) → standing-at f ≡ Reading → f ≡ Reader
 is-reading f e = grind arith
 
 out-of : (b : Bool) (N : ℕ) (r : Role) → Link (cond b (U1 N) U4) r false
 out-of true N r = refl
 out-of false N r = refl
 
-exit-off : (b : Bool) (N : ℕ) → cond b (U1 N) U4 ≢ idle
+exit-off : (b : Bool) (N : ℕ) → cond b (U1 N) U4 ≢ Idle
 exit-off true N z = let y : _≡_ {A = ℕ} 0 1 = cc in omega arith
 exit-off false N z = let y : _≡_ {A = ℕ} 0 1 = cc in omega arith
 
@@ -137,7 +137,7 @@ module _ (t : Tree) (G : Geometry t) (ws : Words) (rs : List Record) (w : Presen
 
   -- a step that is not refused
   abbrev next-bit : ℕ → ℕ → ℕ
-  next-bit p = bits P L (G .apt .sensible .tree) (G .apt .sensible .small) (G .apt .sensible .cap)
+  next-bit p = bits P L (G .apt .sensible .tree) (G .apt .sensible .small) (G .apt .sensible .threshold-fits)
       (G .apt .sensible .ranks) (G .apt .sensible .root) (G .apt .sensible .homes) s bit (k .safe) (s .place p)
 
   step-kept : (p : ℕ) → On P p → (o : Outcome) → Stepped t s p (s .place p) o (row L s p (s .place p))
@@ -148,8 +148,8 @@ module _ (t : Tree) (G : Geometry t) (ws : Words) (rs : List Record) (w : Presen
       (row L s p (s .place p)) (next-bit p) × Fair a)
       (sym (z .says)) (
         record {
-          safe = safe-row P L (g .tree) (g .small) (g .cap) (g .ranks) (g .root) (g .homes) s bit (k .safe) p
-              (G .apt .all p on) (s .place p) refl;
+          safe = safe-row P L (g .tree) (g .small) (g .threshold-fits) (g .ranks) (g .root) (g .homes) s bit
+              (k .safe) p (G .apt .all p on) (s .place p) refl;
           shows = z .shows;
           link = split p
               (λ q.
@@ -168,14 +168,14 @@ module _ (t : Tree) (G : Geometry t) (ws : Words) (rs : List Record) (w : Presen
           rest = split p
               (λ q.
               cond (eqb q p && is-free (z .answer)) true (w .idle q) ≡ true
-              → row L s p (s .place p) .place q ≡ idle)
+              → row L s p (s .place p) .place q ≡ Idle)
               (rw (eq-eqb p p refl, z .here)
               (subst (Rests (w .idle p)) (z .follows)
               (rested t p (w .idle p) (s .place p) (z .given) (k .rest p))))
               (λ q ne. rw (ne-eqb q p ne, z .there q ne) (k .rest q));
           idles = split p
               (λ q.
-              row L s p (s .place p) .place q ≡ idle
+              row L s p (s .place p) .place q ≡ Idle
               → cond (eqb q p && is-free (z .answer)) true (w .idle q) ≡ true)
               (rw (eq-eqb p p refl, z .here)
               (subst (Frees (w .idle p)) (z .follows) (freed t p (w .idle p) (s .place p) (z .given))))
@@ -233,7 +233,7 @@ module _ (t : Tree) (G : Geometry t) (ws : Words) (rs : List Record) (w : Presen
       (lifted t G ws rs s bit (k .safe) (k .shows) p on (s .place p) refl))
 
   -- a rank sent to a place by an ask or a leave
-  sent : (c : Call) (p : ℕ) → On P p → (f : Place) (a : Answer) → Safe P L (go s p f) bit → f ≢ idle
+  sent : (c : Call) (p : ℕ) → On P p → (f : Place) (a : Answer) → Safe P L (go s p f) bit → f ≢ Idle
       → Link f (noted w c a .role p) (noted w c a .inside p) → (noted w c a .idle p ≡ false)
       → written-down t ws rs h c (Ok a) ≡ h
       → ((q : ℕ) → q ≢ p
@@ -251,11 +251,11 @@ module _ (t : Tree) (G : Geometry t) (ws : Words) (rs : List Record) (w : Presen
       ranked =
           split p (λ q. noted w c a .inside q ≡ true → On P q) (λ _. on) (λ q ne. rw (there q ne .1) (k .ranked q));
       rest = split p
-          (λ q. noted w c a .idle q ≡ true → upd (s .place) p f q ≡ idle)
+          (λ q. noted w c a .idle q ≡ true → upd (s .place) p f q ≡ Idle)
           (λ z. absurd (true≢false (sym z ∙ up)))
           (λ q ne. rw (upd-other (s .place) p f q ne, there q ne .2) (k .rest q));
       idles = split p
-          (λ q. upd (s .place) p f q ≡ idle → noted w c a .idle q ≡ true)
+          (λ q. upd (s .place) p f q ≡ Idle → noted w c a .idle q ≡ true)
           (λ z. absurd (off (sym (upd-same (s .place) p f) ∙ z)))
           (λ q ne. rw (upd-other (s .place) p f q ne, there q ne .2) (k .idles q));
       trace = subst (Traces (s .node-at) (s .head-turn) (s .next-turn)) (sym same) (k .trace);
@@ -273,7 +273,7 @@ module _ (t : Tree) (G : Geometry t) (ws : Words) (rs : List Record) (w : Presen
 
   -- an ask
   asks : (c : Call) (p : ℕ) (f : Place) → called t ws rs c ≡ with-words ws (asked t rs p f)
-      → (On P p → s .place p ≡ idle → Kept t ws rs w h c (with-words ws (turned rs p f Asked)) (go s p f) bit)
+      → (On P p → s .place p ≡ Idle → Kept t ws rs w h c (with-words ws (turned rs p f Asked)) (go s p f) bit)
       → Some-kept t ws rs w h c (called t ws rs c)
   asks c p f d ok = subst (Some-kept t ws rs w h c) (sym d) (by (within 1 P p) refl)
     where
@@ -296,10 +296,10 @@ module _ (t : Tree) (G : Geometry t) (ws : Words) (rs : List Record) (w : Presen
   was : (p : ℕ) (f : Place) → s .place p ≡ f → Link f (w .role p) (w .inside p)
   was p f e = subst (λ g. Link g (w .role p) (w .inside p)) e (k .link p)
 
-  one-of : (p : ℕ) → On P p → On (L .tree .top p) 1
+  one-of : (p : ℕ) → On P p → On (L .tree .own-level p) 1
   one-of p on = G .apt .all p on
 
-  not-rest : (p : ℕ) (f : Place) → s .place p ≡ f → f ≢ idle → w .idle p ≡ false
+  not-rest : (p : ℕ) (f : Place) → s .place p ≡ f → f ≢ Idle → w .idle p ≡ false
   not-rest p f e ne = ⊎-elim
       (λ (z : w .idle p ≡ true). absurd (ne (sym e ∙ k .rest p z)))
       (λ (z : w .idle p ≡ false). z)
@@ -309,10 +309,10 @@ module _ (t : Tree) (G : Geometry t) (ws : Words) (rs : List Record) (w : Presen
   kept-ask-write p = asks (AskWrite p) p (W1 (own-level t p)) refl
       (λ on e.
       sent (AskWrite p) p on (W1 (own-level t p)) Asked
-      (safe-ask-write P L (g .tree) (g .small) (g .cap) (g .ranks) (g .root) (g .homes) s bit (k .safe) p
+      (safe-ask-write P L (g .tree) (g .small) (g .threshold-fits) (g .ranks) (g .root) (g .homes) s bit (k .safe) p
       (one-of p on) e)
       (λ z. let y : _≡_ {A = ℕ} 0 1 = cc in omega arith)
-      (rw (eq-eqb p p refl) (was p idle e, refl))
+      (rw (eq-eqb p p refl) (was p Idle e, refl))
       (rw (eq-eqb p p refl))
       refl
       (λ q ne. rw (ne-eqb q p ne) (refl, refl, refl)))
@@ -324,9 +324,9 @@ module _ (t : Tree) (G : Geometry t) (ws : Words) (rs : List Record) (w : Presen
   kept-ask-read p = asks (AskRead p) p R1 refl
       (λ on e.
       sent (AskRead p) p on R1 Asked
-      (safe-ask-read P L (g .tree) (g .small) (g .cap) (g .ranks) (g .root) (g .homes) s bit (k .safe) p e)
+      (safe-ask-read P L (g .tree) (g .small) (g .threshold-fits) (g .ranks) (g .root) (g .homes) s bit (k .safe) p e)
       (λ z. let y : _≡_ {A = ℕ} 0 1 = cc in omega arith)
-      (rw (eq-eqb p p refl) (was p idle e, refl))
+      (rw (eq-eqb p p refl) (was p Idle e, refl))
       (rw (eq-eqb p p refl))
       refl
       (λ q ne. rw (ne-eqb q p ne) (refl, refl, refl)))
@@ -335,32 +335,33 @@ module _ (t : Tree) (G : Geometry t) (ws : Words) (rs : List Record) (w : Presen
       g = G .apt .sensible
 
   -- a writer that leaves, and a reader
-  leave-writes : (p : ℕ) → On P p → s .place p ≡ writes
+  leave-writes : (p : ℕ) → On P p → s .place p ≡ Writer
       → Kept t ws rs w h (Leave p) (with-words ws (turned rs p (exit-of t p) Leaving)) (go s p (exit-of t p)) bit
   leave-writes p on e = sent (Leave p) p on (exit-of t p) Leaving
       (subst
       (λ f. Safe P L (go s p f) bit)
       exit
-      (safe-leave-write P L (g .tree) (g .small) (g .cap) (g .ranks) (g .root) (g .homes) s bit (k .safe) p
+      (safe-leave-write P L (g .tree) (g .small) (g .threshold-fits) (g .ranks) (g .root) (g .homes) s bit (k .safe) p
       e))
       (exit-off (leb 2 (own-level t p)) (own-level t p))
       (rw (eq-eqb p p refl) (out-of (leb 2 (own-level t p)) (own-level t p) (w .role p)))
-      (not-rest p writes e (λ z. let y : _≡_ {A = ℕ} 0 1 = cc in omega arith)) refl
+      (not-rest p Writer e (λ z. let y : _≡_ {A = ℕ} 0 1 = cc in omega arith)) refl
       (λ q ne. rw (ne-eqb q p ne) (refl, refl, refl))
     where
       g : Sensible P L
       g = G .apt .sensible
 
-      exit : cond (leb (L .tree .top p) 1) U4 (U1 (L .tree .top p)) ≡ exit-of t p
+      exit : cond (leb (L .tree .own-level p) 1) U4 (U1 (L .tree .own-level p)) ≡ exit-of t p
       exit = exit-is (own-level t p)
 
-  leave-reads : (p : ℕ) → On P p → s .place p ≡ reads
+  leave-reads : (p : ℕ) → On P p → s .place p ≡ Reader
       → Kept t ws rs w h (Leave p) (with-words ws (turned rs p R7 Leaving)) (go s p R7) bit
   leave-reads p on e = sent (Leave p) p on R7 Leaving
-      (safe-leave-read P L (g .tree) (g .small) (g .cap) (g .ranks) (g .root) (g .homes) s bit (k .safe) p on e)
+      (safe-leave-read P L (g .tree) (g .small) (g .threshold-fits) (g .ranks) (g .root) (g .homes) s bit (k .safe) p
+      on e)
       (λ z. let y : _≡_ {A = ℕ} 0 1 = cc in omega arith)
       (rw (eq-eqb p p refl) refl)
-      (not-rest p reads e (λ z. let y : _≡_ {A = ℕ} 0 1 = cc in omega arith))
+      (not-rest p Reader e (λ z. let y : _≡_ {A = ℕ} 0 1 = cc in omega arith))
       refl
       (λ q ne. rw (ne-eqb q p ne) (refl, refl, refl))
     where
@@ -389,14 +390,14 @@ module _ (t : Tree) (G : Geometry t) (ws : Words) (rs : List Record) (w : Presen
           at Reading z = (go s p R7, bit, leave-reads p (on-of p e) (is-reading (s .place p) z))
 
   -- a leave of a rank that is in is done: with `does-row`, what a chosen list of calls builds on
-  pub does-leave-write : (p : ℕ) → On P p → s .place p ≡ writes
+  pub does-leave-write : (p : ℕ) → On P p → s .place p ≡ Writer
       → Kept t ws rs w h (Leave p) (called t ws rs (Leave p)) (go s p (exit-of t p)) bit
   does-leave-write p on e = subst
       (λ x. Kept t ws rs w h (Leave p) (with-words ws x) (go s p (exit-of t p)) bit)
       (sym (left-is p on ∙ ap (λ f. left-at t rs p (standing-at f)) e))
       (leave-writes p on e)
 
-  pub does-leave-read : (p : ℕ) → On P p → s .place p ≡ reads
+  pub does-leave-read : (p : ℕ) → On P p → s .place p ≡ Reader
       → Kept t ws rs w h (Leave p) (called t ws rs (Leave p)) (go s p R7) bit
   does-leave-read p on e = subst
       (λ x. Kept t ws rs w h (Leave p) (with-words ws x) (go s p R7) bit)
@@ -416,12 +417,12 @@ module _ (t : Tree) (G : Geometry t) (ws : Words) (rs : List Record) (w : Presen
       let onq = one-of q (k .ranked q d) in
       let at-p = at-writes (s .place p) (w .role p) (w .inside p) (k .link p) a b in
       ⊎-elim
-      (λ (z : s .place q ≡ writes).
+      (λ (z : s .place q ≡ Writer).
       one-writer L (G .apt .sensible .tree) (G .apt .sensible .small) s (k .safe .fine) p q onp onq
       (G .apt .sensible .root p q onp onq) at-p z)
-      (λ (z : s .place q ≡ reads).
+      (λ (z : s .place q ≡ Reader).
       absurd
-      (no-reader P L (G .apt .sensible .tree) (G .apt .sensible .small) (G .apt .sensible .cap)
+      (no-reader P L (G .apt .sensible .tree) (G .apt .sensible .small) (G .apt .sensible .threshold-fits)
       (G .apt .sensible .ranks) (G .apt .sensible .root) (G .apt .sensible .homes) s bit (k .safe)
       p q onq at-p z))
       (at-inside (s .place q) (w .role q) (w .inside q) (k .link q) d)

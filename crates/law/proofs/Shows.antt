@@ -20,7 +20,7 @@ use Rattle.plan.specs.Trees.{Tree, counters, counter-home, homes}
 use Rattle.places.specs.declared.record.Record.{Record}
 use Rattle.places.specs.Records.{recorded}
 use Rattle.queues.specs.Machine.{On}
-use Rattle.queues.specs.Rows.{Place, idle, Lock, upd, go, put-next, put-status, put-arrive, put-depart, join, drop}
+use Rattle.queues.specs.Rows.{Place, Idle, Lock, upd, go, put-next, put-status, put-arrive, put-depart, join, drop}
 use Rattle.queues.specs.Rows.{free}
 use Rattle.law.proofs.Bridge.{Shows, Geometry, gives, effect}
 use Rattle.queues.proofs.View.{upd-same, upd-other}
@@ -120,13 +120,13 @@ module _ (t : Tree) (ws : Words) (rs : List Record) (s : Lock) (v : Shows t ws r
         places = split p
             (λ q.
             On (t .shape .ranks) q
-            → getD (set rs (p - 1) (recorded f)) (q - 1) (recorded idle) ≡ recorded (upd (s .place) p f q))
+            → getD (set rs (p - 1) (recorded f)) (q - 1) (recorded Idle) ≡ recorded (upd (s .place) p f q))
             (λ _.
             rw (upd-same (s .place) p f)
-            (getD-set-same rs (p - 1) (recorded f) (recorded idle) (omega (arith, v .ranks))))
+            (getD-set-same rs (p - 1) (recorded f) (recorded Idle) (omega (arith, v .ranks))))
             (λ q ne on′.
             rw (upd-other (s .place) p f q ne)
-            (getD-set-other rs (p - 1) (q - 1) (recorded f) (recorded idle) (omega arith) ∙ v .places q on′));
+            (getD-set-other rs (p - 1) (q - 1) (recorded f) (recorded Idle) (omega arith) ∙ v .places q on′));
         nexts = v .nexts;
         statuses = v .statuses;
         tails = v .tails;
@@ -145,7 +145,7 @@ module _ (t : Tree) (ws : Words) (rs : List Record) (s : Lock) (v : Shows t ws r
         places = split p
             (λ q.
             On (t .shape .ranks) q
-            → getD (set rs (p - 1) (recorded f)) (q - 1) (recorded idle) ≡ recorded (s .place q))
+            → getD (set rs (p - 1) (recorded f)) (q - 1) (recorded Idle) ≡ recorded (s .place q))
             (λ o. w .places p o ∙ ap recorded (upd-same (s .place) p f ∙ sym e))
             (λ q ne o. w .places q o ∙ ap recorded (upd-other (s .place) p f q ne));
         nexts = v .nexts;

@@ -19,7 +19,7 @@ use Rattle.places.specs.Records.{recorded}
 use Rattle.lock.specs.Outcomes.{roomy}
 use Rattle.lock.specs.Layouts.{cleared, idled, laid-answer, laid-words, laid-records}
 use Rattle.queues.specs.Machine.{On}
-use Rattle.queues.specs.Rows.{idle}
+use Rattle.queues.specs.Rows.{Idle}
 use Rattle.queues.specs.Claim.{fresh-lock}
 use Rattle.law.proofs.Bridge.{Shows, Geometry}
 
@@ -31,13 +31,13 @@ shows-cleared : (t : Tree) → Geometry t → (ws : Words) (rs : List Record) �
 shows-cleared t G ws rs e =
     let z = and-parts (leb (t .shape .ranks) (length rs)) (leb (homes t) (ws .count)) e in
     let n = t .shape .ranks in
-    let l = length-replicate n (recorded idle) in
+    let l = length-replicate n (recorded Idle) in
     record {
-      ranks = omega (arith, length-append (replicate n (recorded idle)) (drop n rs), l);
+      ranks = omega (arith, length-append (replicate n (recorded Idle)) (drop n rs), l);
       room = leb-true (homes t) (ws .count) (z .1);
       places = λ p on.
-          List·getD-append (replicate n (recorded idle)) (drop n rs) (recorded idle) (p - 1) (omega (arith, l))
-          ∙ getD-replicate n (p - 1) (recorded idle) (recorded idle) (omega arith);
+          List·getD-append (replicate n (recorded Idle)) (drop n rs) (recorded Idle) (p - 1) (omega (arith, l))
+          ∙ getD-replicate n (p - 1) (recorded Idle) (recorded Idle) (omega arith);
       nexts = λ h on. zeros (homes t) h 0 (ws .word h 0) on (omega arith);
       statuses = λ h on. zeros (homes t) h 1 (ws .word h 1) on (omega arith);
       tails = λ h on. zeros (homes t) h 2 (ws .word h 2) on (omega arith);

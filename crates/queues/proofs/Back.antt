@@ -7,16 +7,16 @@ use lib.Dec.{eqb, leb, ltb}
 use native.Mathlib.Omega.{arith}
 use Rattle.std.proofs.shelf.Tests.{cases-eq, cond-both, eq-eqb, ne-eqb, le-leb, lt-leb, leb-true, leb-false}
 use Rattle.std.proofs.shelf.Tests.{eqb-false, ltb-true, ltb-false}
-use Rattle.queues.specs.Machine.{Tree, Lawful, On, Phase, out, fresh, clean, ready, link, wait, hold, give, level}
+use Rattle.queues.specs.Machine.{Tree, Lawful, On, Phase, out, fresh, clean, ready, link, wait, hold, give, hold-level}
 use Rattle.queues.specs.Machine.{InRange, Waits, State, Inv, Holder, Member, Heads, Behind, Waiting}
-use Rattle.queues.specs.Rows.{Place, idle, W1, W2, W3, W4, W5, W6, W7, W8, W9, U1, U2, U3, U4, U5, U6, U7, U8, U9}
-use Rattle.queues.specs.Rows.{U10, R1, R2, R3, R4, R5, R6, R7, writes, reads, WAIT, tell, Plan, Lock, upd, phase, go}
+use Rattle.queues.specs.Rows.{Place, Idle, W1, W2, W3, W4, W5, W6, W7, W8, W9, U1, U2, U3, U4, U5, U6, U7, U8, U9}
+use Rattle.queues.specs.Rows.{U10, R1, R2, R3, R4, R5, R6, R7, Writer, Reader, WAIT, told-status, Plan, Lock, upd}
+use Rattle.queues.specs.Rows.{phase, go}
 use Rattle.queues.specs.Rows.{row, done, next}
-use Rattle.queues.specs.Counters
-use Rattle.queues.specs.Counters.{total, tries, clears, Tally, Counted}
+use Rattle.queues.specs.Counters.{total, tries, admits, clears, Tally, Counted}
 use Rattle.queues.proofs.Base.{asked, waits-cases, turn-is}
 use Rattle.queues.proofs.Sum.{total-same, total-zero, total-swap}
-use Rattle.queues.proofs.View.{upd-same, tell-big}
+use Rattle.queues.proofs.View.{upd-same, told-large}
 
 -- does a phase wait for a STATUS
 pub waits-or : (f : Phase) → ((i : ℕ) × (f ≡ wait i)) ⊎ ((i : ℕ) → f ≢ wait i)
@@ -32,7 +32,7 @@ waits-or (give h j t) = inr (λ i e. absurd (subst (λ f. Waits f i) (sym e) ref
 -- a rank that holds something and does not wait
 pub record Mover (T : Tree) (s : State) : Type 0 where
   pub rank : ℕ
-  pub holds : level (T .top rank) (s .phases rank) ≤ T .top rank
+  pub holds : hold-level (T .own-level rank) (s .phases rank) ≤ T .own-level rank
   pub free : (i : ℕ) → s .phases rank ≢ wait i
 
 -- whoever waits, somebody holds what it waits for; who waits in turn waits higher up
@@ -40,24 +40,24 @@ onward : (T : Tree) → Lawful T → (s : State) → Inv T s → (d i p : ℕ) �
     → ((j q : ℕ) → j ≤ d → s .phases q ≡ wait j → Mover T s) → Mover T s
 onward T G s v d i p l e again =
     let b : Behind T s p i = asked T s v p (wait i) e .spot in
-    let on : On (T .top p) i = subst (InRange (T .top p)) e (v .range p) in
-    let h : Holder T s (T .elem p i) = v .holder (T .elem p i) (omega (arith, b .low, b .high)) in
-    let same : h .lvl ≡ i = G .level-of (h .rank) p (h .lvl) i (h .on) on (h .queue) in
+    let on : On (T .own-level p) i = subst (InRange (T .own-level p)) e (v .range p) in
+    let h : Holder T s (T .element p i) = v .holder (T .element p i) (omega (arith, b .low, b .high)) in
+    let same : h .level ≡ i = G .level-of (h .rank) p (h .level) i (h .on) on (h .queue) in
     ⊎-elim
     (λ (w : (j : ℕ) × (s .phases (h .rank) ≡ wait j)).
-    again (w .0) (h .rank) (omega (arith, h .holds, ap (level (T .top (h .rank))) (w .1))) (w .1))
+    again (w .0) (h .rank) (omega (arith, h .holds, ap (hold-level (T .own-level (h .rank))) (w .1))) (w .1))
     (λ (w : (j : ℕ) → s .phases (h .rank) ≢ wait j).
     record { rank = h .rank; holds = omega (arith, h .holds, h .on); free = w })
     (waits-or (s .phases (h .rank)))
 
 pub mover : (T : Tree) → Lawful T → (s : State) → Inv T s → (d i p : ℕ) → i ≤ d → s .phases p ≡ wait i → Mover T s
 mover T G s v zero i p l e =
-    let o : On (T .top p) i = subst (InRange (T .top p)) e (v .range p) in absurd (omega arith)
+    let o : On (T .own-level p) i = subst (InRange (T .own-level p)) e (v .range p) in absurd (omega arith)
 mover T G s v (suc d) i p l e = onward T G s v d i p l e (λ j q m w. mover T G s v d j q m w)
 
 -- how many rows lie ahead of a place, on the longest way that does not wait
 abbrev pub ahead : ℕ → ℕ → Place → ℕ
-ahead N C idle = 0
+ahead N C Idle = 0
 ahead N C (U10 i) = 3 * (N - i) + 2
 ahead N C (U9 i t) = 3 * (N - i) + 2
 ahead N C (U8 i) = 3 * (N - i) + 3
@@ -68,7 +68,7 @@ ahead N C (U5 n) = 3 * N + 2 * C + 2
 ahead N C U4 = 3 * N + 2 * C + 3
 ahead N C (U2 i n) = 3 * N + 2 * C + 2 * i + 3
 ahead N C (U1 i) = 3 * N + 2 * C + 2 * i + 4
-ahead N C writes = 5 * N + 2 * C + 5
+ahead N C Writer = 5 * N + 2 * C + 5
 ahead N C (W9 k n) = 5 * N + 4 * C + 5 - 2 * k
 ahead N C (W8 k) = 5 * N + 4 * C + 6 - 2 * k
 ahead N C (W7 k) = 5 * N + 5 * C + 7 - k
@@ -85,30 +85,30 @@ ahead N C R4 = 0
 ahead N C R5 = 0
 ahead N C (R6 n) = 0
 ahead N C R7 = 0
-ahead N C reads = 0
+ahead N C Reader = 0
 
 -- a place from which the next row does not wait
 abbrev pub Able : Plan → Lock → ℕ → Place → Type 0
-Able L s p idle = ⊥
+Able L s p Idle = ⊥
 Able L s p (W1 i) = Unit {0}
 Able L s p (W2 i) = Unit {0}
 Able L s p (W3 i) = Unit {0}
 Able L s p (W4 i t) = Unit {0}
-Able L s p (W5 i) = (s .statuses (L .tree .node p i) ≤ 1000) ⊎ (s .statuses (L .tree .node p i) ≡ tell i)
+Able L s p (W5 i) = (s .statuses (L .tree .node p i) ≤ 1000) ⊎ (s .statuses (L .tree .node p i) ≡ told-status i)
 Able L s p (W6 i) = Unit {0}
 Able L s p (W7 k) = k < L .counters
 Able L s p (W8 k) = k < L .counters
 Able L s p (W9 k n) = (k < L .counters) × (n ≡ 2 ^ 62 + s .departs k)
 Able L s p (U1 i) = Unit {0}
 Able L s p (U2 i n) = 2 ≤ i
-Able L s p (U3 i t n) = On (L .tree .top p) i
+Able L s p (U3 i t n) = On (L .tree .own-level p) i
 Able L s p U4 = Unit {0}
 Able L s p (U5 n) = Unit {0}
 Able L s p (U6 k) = k < L .counters
-Able L s p (U7 k n) = (k < L .counters) × On (L .tree .top p) 1
+Able L s p (U7 k n) = (k < L .counters) × On (L .tree .own-level p) 1
 Able L s p (U8 i) = Unit {0}
-Able L s p (U9 i t) = On (L .tree .top p) i
-Able L s p (U10 i) = On (L .tree .top p) i × (s .tails (L .tree .elem p i) ≡ L .tree .node p i)
+Able L s p (U9 i t) = On (L .tree .own-level p) i
+Able L s p (U10 i) = On (L .tree .own-level p) i × (s .tails (L .tree .element p i) ≡ L .tree .node p i)
 Able L s p R1 = ⊥
 Able L s p R2 = ⊥
 Able L s p R3 = ⊥
@@ -116,12 +116,12 @@ Able L s p R4 = ⊥
 Able L s p R5 = ⊥
 Able L s p (R6 n) = ⊥
 Able L s p R7 = ⊥
-Able L s p writes = ⊥
-Able L s p reads = ⊥
+Able L s p Writer = ⊥
+Able L s p Reader = ⊥
 
 module _ (L : Plan) (s : Lock) (p : ℕ) where
   abbrev N : ℕ
-  N = L .tree .top p
+  N = L .tree .own-level p
 
   abbrev C : ℕ
   C = L .counters
@@ -134,7 +134,7 @@ module _ (L : Plan) (s : Lock) (p : ℕ) where
   to m s₁ f h = rw (upd-same (s₁ .place) p f) h
 
   done-below : (i m : ℕ) → On N i → 3 * (N - i) + 2 ≤ m → Below m (done L s p i)
-  done-below i m on l = cond-both (eqb i N) idle (U8 (suc i)) (Below m)
+  done-below i m on l = cond-both (eqb i N) Idle (U8 (suc i)) (Below m)
       (λ _. omega arith)
       (λ z. let ne : i ≢ N = eqb-false i N z in omega arith)
 
@@ -150,23 +150,23 @@ module _ (L : Plan) (s : Lock) (p : ℕ) where
   choice m false false f g x y = x
 
   pub falls : (f : Place) → Able L s p f → Below (ahead N C f) (row L s p f .place p)
-  falls idle a = absurd a
+  falls Idle a = absurd a
   falls (W1 i) a = to (ahead N C (W1 i)) s (W2 i) (omega arith)
   falls (W2 i) a = to (ahead N C (W2 i)) s (W3 i) (omega arith)
   falls (W3 i) a = to (ahead N C (W3 i)) s
-      (cond (eqb (s .tails (L .tree .elem p i)) 0) (W6 i) (W4 i (s .tails (L .tree .elem p i))))
-      (cond-both (eqb (s .tails (L .tree .elem p i)) 0) (W6 i) (W4 i (s .tails (L .tree .elem p i)))
+      (cond (eqb (s .tails (L .tree .element p i)) 0) (W6 i) (W4 i (s .tails (L .tree .element p i))))
+      (cond-both (eqb (s .tails (L .tree .element p i)) 0) (W6 i) (W4 i (s .tails (L .tree .element p i)))
       (Below (ahead N C (W3 i)))
       (λ _. omega arith)
       (λ _. omega arith))
   falls (W4 i t) a = to (ahead N C (W4 i t)) s (W5 i) (omega arith)
   falls (W5 i) (inl a) =
       let w = s .statuses (L .tree .node p i) in
-      rw (ne-eqb w WAIT (omega arith), le-leb w 1000 a) (to (ahead N C (W5 i)) s writes (omega arith))
+      rw (ne-eqb w WAIT (omega arith), le-leb w 1000 a) (to (ahead N C (W5 i)) s Writer (omega arith))
   falls (W5 i) (inr a) =
       let w = s .statuses (L .tree .node p i) in
-      let b : (WAIT < tell i) × (1000 < tell i) = tell-big i in
-      rw (ne-eqb w WAIT (omega arith), lt-leb w 1000 (omega arith), eq-eqb w (tell i) a)
+      let b : (WAIT < told-status i) × (1000 < told-status i) = told-large i in
+      rw (ne-eqb w WAIT (omega arith), lt-leb w 1000 (omega arith), eq-eqb w (told-status i) a)
       (to (ahead N C (W5 i)) s (W6 i) (omega arith))
   falls (W6 i) a = to (ahead N C (W6 i)) s (cond (leb 2 i) (W1 (pred i)) (W7 0))
       (cond-both (leb 2 i) (W1 (pred i)) (W7 0) (Below (ahead N C (W6 i)))
@@ -176,14 +176,14 @@ module _ (L : Plan) (s : Lock) (p : ℕ) where
       (next-below k (ahead N C (W7 k)) (W8 0) W7 (λ z. omega arith) (λ z. omega arith))
   falls (W8 k) a = to (ahead N C (W8 k)) s (W9 k (s .arrives k)) (omega arith)
   falls (W9 k n) a = rw (eq-eqb n (2 ^ 62 + s .departs k) (a .1))
-      (to (ahead N C (W9 k n)) s (next L s p k writes W8)
-      (next-below k (ahead N C (W9 k n)) writes W8 (λ z. omega arith) (λ z. omega arith)))
+      (to (ahead N C (W9 k n)) s (next L s p k Writer W8)
+      (next-below k (ahead N C (W9 k n)) Writer W8 (λ z. omega arith) (λ z. omega arith)))
   falls (U1 i) a = to (ahead N C (U1 i)) s (U2 i (s .statuses (L .tree .node p i))) (omega arith)
   falls (U2 i n) a = to (ahead N C (U2 i n)) s
       (cond (eqb (s .nexts (L .tree .node p i)) 0) (cond (leb i 2) U4 (U1 (pred i)))
-      (cond (ltb n (L .cap p i)) (U3 i (s .nexts (L .tree .node p i)) (suc n))
+      (cond (ltb n (L .hand-over-limit p i)) (U3 i (s .nexts (L .tree .node p i)) (suc n))
       (cond (leb i 2) U4 (U1 (pred i)))))
-      (choice (ahead N C (U2 i n)) (eqb (s .nexts (L .tree .node p i)) 0) (ltb n (L .cap p i))
+      (choice (ahead N C (U2 i n)) (eqb (s .nexts (L .tree .node p i)) 0) (ltb n (L .hand-over-limit p i))
       (cond (leb i 2) U4 (U1 (pred i))) (U3 i (s .nexts (L .tree .node p i)) (suc n))
       (cond-both (leb i 2) U4 (U1 (pred i)) (Below (ahead N C (U2 i n)))
       (λ z. omega arith)
@@ -193,8 +193,8 @@ module _ (L : Plan) (s : Lock) (p : ℕ) where
   falls U4 a = to (ahead N C U4) s (U5 (s .statuses (L .tree .node p 1))) (omega arith)
   falls (U5 n) a = to (ahead N C (U5 n)) s
       (cond (eqb (s .nexts (L .tree .node p 1)) 0) (U6 0)
-      (cond (ltb n (L .cap p 1)) (U3 1 (s .nexts (L .tree .node p 1)) (suc n)) (U6 0)))
-      (choice (ahead N C (U5 n)) (eqb (s .nexts (L .tree .node p 1)) 0) (ltb n (L .cap p 1)) (U6 0)
+      (cond (ltb n (L .hand-over-limit p 1)) (U3 1 (s .nexts (L .tree .node p 1)) (suc n)) (U6 0)))
+      (choice (ahead N C (U5 n)) (eqb (s .nexts (L .tree .node p 1)) 0) (ltb n (L .hand-over-limit p 1)) (U6 0)
       (U3 1 (s .nexts (L .tree .node p 1)) (suc n)) (omega arith) (omega arith))
   falls (U6 k) a = to (ahead N C (U6 k)) s (U7 k (s .departs k)) (omega arith)
   falls (U7 k n) a = to (ahead N C (U7 k n)) s (next L s p k (U8 1) U6)
@@ -206,7 +206,7 @@ module _ (L : Plan) (s : Lock) (p : ℕ) where
       (λ _. omega arith)
       (λ _. omega arith))
   falls (U9 i t) a = to (ahead N C (U9 i t)) s (done L s p i) (done-below i (ahead N C (U9 i t)) a (omega arith))
-  falls (U10 i) a = rw (eq-eqb (s .tails (L .tree .elem p i)) (L .tree .node p i) (a .1))
+  falls (U10 i) a = rw (eq-eqb (s .tails (L .tree .element p i)) (L .tree .node p i) (a .1))
       (to (ahead N C (U10 i)) s (done L s p i) (done-below i (ahead N C (U10 i)) (a .0) (omega arith)))
   falls R1 a = absurd a
   falls R2 a = absurd a
@@ -215,28 +215,28 @@ module _ (L : Plan) (s : Lock) (p : ℕ) where
   falls R5 a = absurd a
   falls (R6 n) a = absurd a
   falls R7 a = absurd a
-  falls writes a = absurd a
-  falls reads a = absurd a
+  falls Writer a = absurd a
+  falls Reader a = absurd a
 
 -- who stands behind a holder whose node is not the tail: it has linked itself, or is about to
 pub record Follower (T : Tree) (s : State) (p i : ℕ) : Type 0 where
   pub rank : ℕ
-  pub on : On (T .top rank) i
+  pub on : On (T .own-level rank) i
   pub how : ((s .phases rank ≡ wait i) × (s .nexts (T .node p i) ≡ T .node rank i))
       ⊎ (s .phases rank ≡ link i (T .node p i))
 
 pub follower : (T : Tree) (G : Lawful T) (s : State) (v : Inv T s) (p i : ℕ) → s .phases p ≡ hold i
-    → s .tails (T .elem p i) ≢ T .node p i → Follower T s p i
+    → s .tails (T .element p i) ≢ T .node p i → Follower T s p i
 follower T G s v p i e ne = found (v .member k (s .head-turn k) (omega arith) more)
   where
     k : ℕ
-    k = T .elem p i
+    k = T .element p i
 
-    on : On (T .top p) i
-    on = subst (InRange (T .top p)) e (v .range p)
+    on : On (T .own-level p) i
+    on = subst (InRange (T .own-level p)) e (v .range p)
 
     hd : Heads T s p i
-    hd = v .heads p i on (omega (arith, ap (level (T .top p)) e))
+    hd = v .heads p i on (omega (arith, ap (hold-level (T .own-level p)) e))
 
     more : suc (s .head-turn k) < s .next-turn k
     more = ⊎-elim
@@ -253,13 +253,13 @@ follower T G s v p i e ne = found (v .member k (s .head-turn k) (omega arith) mo
           how = by (waits-cases (s .phases (m .rank)) i (subst (Waits (s .phases (m .rank))) same (m .waits)));
         }
       where
-        same : m .lvl ≡ i
-        same = G .level-of (m .rank) p (m .lvl) i (m .on) on (m .queue)
+        same : m .level ≡ i
+        same = G .level-of (m .rank) p (m .level) i (m .on) on (m .queue)
 
-        queue : T .elem (m .rank) i ≡ k
-        queue = ap (T .elem (m .rank)) (sym same) ∙ m .queue
+        queue : T .element (m .rank) i ≡ k
+        queue = ap (T .element (m .rank)) (sym same) ∙ m .queue
 
-        here : (b : Behind T s (m .rank) i) → s .node-at (T .elem (m .rank) i) (b .turn) ≡ T .node p i
+        here : (b : Behind T s (m .rank) i) → s .node-at (T .element (m .rank) i) (b .turn) ≡ T .node p i
         here b = rw (
           queue,
           turn-is T G s v k (s .head-turn k) (m .rank) i queue (omega arith) more
@@ -277,15 +277,15 @@ follower T G s v p i e ne = found (v .member k (s .head-turn k) (omega arith) mo
             inr (w .1 ∙ ap (link i) (a .target ∙ here (a .spot)))
 
 -- while no rank carries anything of the counter k and its bit stands, W8 and W9 pass
-pub passes : (P C TR : ℕ) (s : Tally) → Counted P C TR s → (k : ℕ) → k < C → s .bit k ≡ 1
-    → ((q : ℕ) → On P q → (tries (s .load q) k ≡ 0) × (Counters.reads (s .load q) k ≡ 0) × (clears (s .load q) k ≡ 0))
+pub passes : (P C limit : ℕ) (s : Tally) → Counted P C limit s → (k : ℕ) → k < C → s .bit k ≡ 1
+    → ((q : ℕ) → On P q → (tries (s .load q) k ≡ 0) × (admits (s .load q) k ≡ 0) × (clears (s .load q) k ≡ 0))
     → s .arrives k ≡ 2 ^ 62 + s .departs k
-passes P C TR s v k l b h =
+passes P C limit s v k l b h =
     let x : total P (λ q. tries (s .load q) k) ≡ 0 =
     total-same P (λ q. 0) (λ q. tries (s .load q) k) (λ q a b. h q (record { from = a; upto = b }) .0)
     ∙ total-zero P in
-    let y : total P (λ q. Counters.reads (s .load q) k) ≡ 0 =
-    total-same P (λ q. 0) (λ q. Counters.reads (s .load q) k) (λ q a b. h q (record { from = a; upto = b }) .1)
+    let y : total P (λ q. admits (s .load q) k) ≡ 0 =
+    total-same P (λ q. 0) (λ q. admits (s .load q) k) (λ q a b. h q (record { from = a; upto = b }) .1)
     ∙ total-zero P in
     let z : total P (λ q. clears (s .load q) k) ≡ 0 =
     total-same P (λ q. 0) (λ q. clears (s .load q) k) (λ q a b. h q (record { from = a; upto = b }) .2)

@@ -4,7 +4,7 @@ use mathlib.Core.Path.{_≡_, refl, sym, _∙_, ap, subst, subst₂}
 use mathlib.Core.Logic.{_⊎_, inl, inr, _≢_, ⊎-elim}
 use native.Mathlib.Omega.{arith}
 use Rattle.std.proofs.shelf.Tests.{cases-eq}
-use Rattle.queues.specs.Machine.{Tree, Lawful, On, Phase, out, fresh, clean, ready, link, wait, hold, give, level}
+use Rattle.queues.specs.Machine.{Tree, Lawful, On, Phase, out, fresh, clean, ready, link, wait, hold, give, hold-level}
 use Rattle.queues.specs.Machine.{InRange, Waits, State, Inv, Holder, Member, Heads, Behind, Linking, Waiting, Asks}
 
 pub range-of : (f : Phase) (top : ℕ) → InRange top f → (g : Phase) → f ≡ g → InRange top g
@@ -12,27 +12,28 @@ range-of f top h g e = subst (λ (x : Phase). InRange top x) e h
 
 pub record Occupant (T : Tree) (s : State) (k a : ℕ) : Type 0 where
   pub rank : ℕ
-  pub lvl : ℕ
-  pub on : On (T .top rank) lvl
-  pub queue : T .elem rank lvl ≡ k
-  pub is : s .node-at k a ≡ T .node rank lvl
-  pub near : level (T .top rank) (s .phases rank) ≤ suc lvl
-  pub role : ((a ≡ s .head-turn k) × (level (T .top rank) (s .phases rank) ≤ lvl)) ⊎ Waits (s .phases rank) lvl
+  pub level : ℕ
+  pub on : On (T .own-level rank) level
+  pub queue : T .element rank level ≡ k
+  pub is : s .node-at k a ≡ T .node rank level
+  pub near : hold-level (T .own-level rank) (s .phases rank) ≤ suc level
+  pub role : ((a ≡ s .head-turn k) × (hold-level (T .own-level rank) (s .phases rank) ≤ level))
+      ⊎ Waits (s .phases rank) level
 
 pub record Successor (T : Tree) (s : State) (p i t : ℕ) : Type 0 where
   pub rank : ℕ
-  pub on : On (T .top rank) i
-  pub queue : T .elem rank i ≡ T .elem p i
+  pub on : On (T .own-level rank) i
+  pub queue : T .element rank i ≡ T .element p i
   pub waits : s .phases rank ≡ wait i
-  pub more : suc (s .head-turn (T .elem p i)) < s .next-turn (T .elem p i)
-  pub is : s .node-at (T .elem p i) (suc (s .head-turn (T .elem p i))) ≡ T .node rank i
+  pub more : suc (s .head-turn (T .element p i)) < s .next-turn (T .element p i)
+  pub is : s .node-at (T .element p i) (suc (s .head-turn (T .element p i))) ≡ T .node rank i
   pub target : t ≡ T .node rank i
 
 pub asked : (T : Tree) (s : State) → Inv T s → (p : ℕ) (f : Phase) → s .phases p ≡ f → Asks T s p f
 asked T s v p f e = subst (Asks T s p) e (v .asks p)
 
 -- whoever waits at i holds all below it
-pub level-waits : (top : ℕ) (f : Phase) (i : ℕ) → Waits f i → level top f ≡ suc i
+pub level-waits : (top : ℕ) (f : Phase) (i : ℕ) → Waits f i → hold-level top f ≡ suc i
 level-waits top (link j t) i w = ap suc w
 level-waits top (wait j) i w = ap suc w
 level-waits top out i w = absurd w
@@ -64,47 +65,52 @@ waits-cases (give h j t) i w = absurd w
 
 module _ (T : Tree) (G : Lawful T) (s : State) (v : Inv T s) where
   -- two ranks that hold one element have one node there
-  pub one-head : (p r i : ℕ) → On (T .top p) i → On (T .top r) i → level (T .top p) (s .phases p) ≤ i
-      → level (T .top r) (s .phases r) ≤ i → T .elem p i ≡ T .elem r i → T .node p i ≡ T .node r i
+  pub one-head : (p r i : ℕ) → On (T .own-level p) i → On (T .own-level r) i
+      → hold-level (T .own-level p) (s .phases p) ≤ i → hold-level (T .own-level r) (s .phases r) ≤ i
+      → T .element p i ≡ T .element r i → T .node p i ≡ T .node r i
   one-head p r i on on′ h h′ e =
       sym (v .heads p i on h .is) ∙ (ap (λ k. s .node-at k (s .head-turn k)) e ∙ v .heads r i on′ h′ .is)
 
   -- two ranks that hold one element are one rank: down to the leaf
-  one-holder-by : (d p r i : ℕ) → i + d ≡ T .top p → On (T .top p) i → On (T .top r) i
-      → level (T .top p) (s .phases p) ≤ i → level (T .top r) (s .phases r) ≤ i → T .elem p i ≡ T .elem r i → p ≡ r
+  one-holder-by : (d p r i : ℕ) → i + d ≡ T .own-level p → On (T .own-level p) i → On (T .own-level r) i
+      → hold-level (T .own-level p) (s .phases p) ≤ i → hold-level (T .own-level r) (s .phases r) ≤ i
+      → T .element p i ≡ T .element r i → p ≡ r
   one-holder-by zero p r i room on on′ h h′ e = ⊎-elim
       (λ (q : p ≡ r). q)
-      (λ (q : (i < T .top p) × (i < T .top r) × (T .elem p (suc i) ≡ T .elem r (suc i))). absurd (omega arith))
+      (λ (q : (i < T .own-level p) × (i < T .own-level r) × (T .element p (suc i) ≡ T .element r (suc i))).
+      absurd (omega arith))
       (G .below p r i on on′ (one-head p r i on on′ h h′ e))
   one-holder-by (suc d) p r i room on on′ h h′ e = ⊎-elim
       (λ (q : p ≡ r). q)
-      (λ (q : (i < T .top p) × (i < T .top r) × (T .elem p (suc i) ≡ T .elem r (suc i))).
+      (λ (q : (i < T .own-level p) × (i < T .own-level r) × (T .element p (suc i) ≡ T .element r (suc i))).
       one-holder-by d p r (suc i) (omega arith) (omega arith) (omega arith) (omega arith) (omega arith) (q .2))
       (G .below p r i on on′ (one-head p r i on on′ h h′ e))
 
-  pub one-holder : (p r i : ℕ) → On (T .top p) i → On (T .top r) i → level (T .top p) (s .phases p) ≤ i
-      → level (T .top r) (s .phases r) ≤ i → T .elem p i ≡ T .elem r i → p ≡ r
-  one-holder p r i on on′ h h′ e = one-holder-by (T .top p - i) p r i (omega arith) on on′ h h′ e
+  pub one-holder : (p r i : ℕ) → On (T .own-level p) i → On (T .own-level r) i
+      → hold-level (T .own-level p) (s .phases p) ≤ i → hold-level (T .own-level r) (s .phases r) ≤ i
+      → T .element p i ≡ T .element r i → p ≡ r
+  one-holder p r i on on′ h h′ e = one-holder-by (T .own-level p - i) p r i (omega arith) on on′ h h′ e
 
   -- a node is used by one rank: two ranks that hold all below it are one
-  pub one-owner : (p r i j : ℕ) → On (T .top p) i → On (T .top r) j → level (T .top p) (s .phases p) ≤ suc i
-      → level (T .top r) (s .phases r) ≤ suc j → T .node p i ≡ T .node r j → (p ≡ r) × (i ≡ j)
+  pub one-owner : (p r i j : ℕ) → On (T .own-level p) i → On (T .own-level r) j
+      → hold-level (T .own-level p) (s .phases p) ≤ suc i → hold-level (T .own-level r) (s .phases r) ≤ suc j
+      → T .node p i ≡ T .node r j → (p ≡ r) × (i ≡ j)
   one-owner p r i j on on′ h h′ e =
       let same : i ≡ j = G .queue-of p r i j on on′ e .0 in
-      let on″ : On (T .top r) i = omega arith in (
+      let on″ : On (T .own-level r) i = omega arith in (
         ⊎-elim
             (λ (q : p ≡ r). q)
-            (λ (q : (i < T .top p) × (i < T .top r) × (T .elem p (suc i) ≡ T .elem r (suc i))).
+            (λ (q : (i < T .own-level p) × (i < T .own-level r) × (T .element p (suc i) ≡ T .element r (suc i))).
             one-holder p r (suc i) (omega arith) (omega arith) (omega arith) (omega arith) (q .2))
             (G .below p r i on on″ (e ∙ ap (T .node r) (sym same))),
         same,
       )
 
-  pub waits-level : (p i : ℕ) → Waits (s .phases p) i → level (T .top p) (s .phases p) ≡ suc i
-  waits-level p i w = level-waits (T .top p) (s .phases p) i w
+  pub waits-level : (p i : ℕ) → Waits (s .phases p) i → hold-level (T .own-level p) (s .phases p) ≡ suc i
+  waits-level p i w = level-waits (T .own-level p) (s .phases p) i w
 
-  pub waits-on : (p i : ℕ) → Waits (s .phases p) i → On (T .top p) i
-  waits-on p i w = range-waits (T .top p) (s .phases p) i (v .range p) w
+  pub waits-on : (p i : ℕ) → Waits (s .phases p) i → On (T .own-level p) i
+  waits-on p i w = range-waits (T .own-level p) (s .phases p) i (v .range p) w
 
   -- who uses the node at a turn of a queue
   pub occupant : (k a : ℕ) → s .head-turn k ≤ a → a < s .next-turn k → Occupant T s k a
@@ -117,7 +123,7 @@ module _ (T : Tree) (G : Lawful T) (s : State) (v : Inv T s) where
       first e o =
           record {
             rank = o .rank;
-            lvl = o .lvl;
+            level = o .level;
             on = o .on;
             queue = o .queue;
             is = ap (s .node-at k) e ∙ o .is;
@@ -131,31 +137,32 @@ module _ (T : Tree) (G : Lawful T) (s : State) (v : Inv T s) where
           let m : Member T s k (suc a) = v .member k a (omega arith) h′ in
           record {
             rank = m .rank;
-            lvl = m .lvl;
+            level = m .level;
             on = m .on;
             queue = m .queue;
             is = m .is;
-            near = omega (arith, waits-level (m .rank) (m .lvl) (m .waits));
+            near = omega (arith, waits-level (m .rank) (m .level) (m .waits));
             role = inr (m .waits);
           }
 
   -- the node of a rank that has not joined stands in no queue
-  pub apart : (p i : ℕ) → On (T .top p) i → level (T .top p) (s .phases p) ≡ suc i → (Waits (s .phases p) i → ⊥)
-      → (k a : ℕ) → s .head-turn k ≤ a → a < s .next-turn k → s .node-at k a ≢ T .node p i
+  pub apart : (p i : ℕ) → On (T .own-level p) i → hold-level (T .own-level p) (s .phases p) ≡ suc i
+      → (Waits (s .phases p) i → ⊥) → (k a : ℕ) → s .head-turn k ≤ a → a < s .next-turn k
+      → s .node-at k a ≢ T .node p i
   apart p i on h w k a l l′ e =
       let o : Occupant T s k a = occupant k a l l′ in
-      let u : (o .rank ≡ p) × (o .lvl ≡ i) =
-      one-owner (o .rank) p (o .lvl) i (o .on) on (o .near) (omega arith) (sym (o .is) ∙ e) in
+      let u : (o .rank ≡ p) × (o .level ≡ i) =
+      one-owner (o .rank) p (o .level) i (o .on) on (o .near) (omega arith) (sym (o .is) ∙ e) in
       ⊎-elim
-      (λ (r : (a ≡ s .head-turn k) × (level (T .top (o .rank)) (s .phases (o .rank)) ≤ o .lvl)).
-      let q : level (T .top (o .rank)) (s .phases (o .rank)) ≡ level (T .top p) (s .phases p) =
-      ap (λ x. level (T .top x) (s .phases x)) (u .0) in
+      (λ (r : (a ≡ s .head-turn k) × (hold-level (T .own-level (o .rank)) (s .phases (o .rank)) ≤ o .level)).
+      let q : hold-level (T .own-level (o .rank)) (s .phases (o .rank)) ≡ hold-level (T .own-level p) (s .phases p) =
+      ap (λ x. hold-level (T .own-level x) (s .phases x)) (u .0) in
       omega arith)
-      (λ (r : Waits (s .phases (o .rank)) (o .lvl)). w (subst₂ (λ x y. Waits (s .phases x) y) (u .0) (u .1) r))
+      (λ (r : Waits (s .phases (o .rank)) (o .level)). w (subst₂ (λ x y. Waits (s .phases x) y) (u .0) (u .1) r))
       (o .role)
 
   -- the turn of a rank that stands behind another is the only one with its node
-  pub turn-is : (k a p i : ℕ) → T .elem p i ≡ k → s .head-turn k ≤ a → suc a < s .next-turn k
+  pub turn-is : (k a p i : ℕ) → T .element p i ≡ k → s .head-turn k ≤ a → suc a < s .next-turn k
       → s .node-at k (suc a) ≡ T .node p i → (b : Behind T s p i) → b .turn ≡ a
   turn-is k a p i e l h is b =
       let q : suc (b .turn) ≡ suc a =
@@ -166,10 +173,10 @@ module _ (T : Tree) (G : Lawful T) (s : State) (v : Inv T s) where
   -- who stands behind a rank that is about to hand over
   pub successor : (p h i t : ℕ) → s .phases p ≡ give h i t → Successor T s p i t
   successor p h i t e =
-      let rg = range-of (s .phases p) (T .top p) (v .range p) (give h i t) e in
-      let on : On (T .top p) i = omega arith in
-      let k = T .elem p i in
-      let lv : level (T .top p) (s .phases p) ≡ h = ap (level (T .top p)) e in
+      let rg = range-of (s .phases p) (T .own-level p) (v .range p) (give h i t) e in
+      let on : On (T .own-level p) i = omega arith in
+      let k = T .element p i in
+      let lv : hold-level (T .own-level p) (s .phases p) ≡ h = ap (hold-level (T .own-level p)) e in
       let hd : Heads T s p i = v .heads p i on (omega arith) in
       let g : (t ≡ s .nexts (T .node p i)) × (t ≢ 0) = asked T s v p (give h i t) e in
       ⊎-elim
@@ -179,30 +186,32 @@ module _ (T : Tree) (G : Lawful T) (s : State) (v : Inv T s) where
       found hd on (omega arith) (v .member k (s .head-turn k) (omega arith) (omega arith)))
       (cases-eq (suc (s .head-turn k)) (s .next-turn k))
     where
-      found : Heads T s p i → On (T .top p) i → suc (s .head-turn (T .elem p i)) < s .next-turn (T .elem p i)
-          → Member T s (T .elem p i) (suc (s .head-turn (T .elem p i))) → Successor T s p i t
+      found : Heads T s p i → On (T .own-level p) i
+          → suc (s .head-turn (T .element p i)) < s .next-turn (T .element p i)
+          → Member T s (T .element p i) (suc (s .head-turn (T .element p i))) → Successor T s p i t
       found hd on more m = by (waits-cases (s .phases r) i (subst (Waits (s .phases r)) same (m .waits)))
         where
           r : ℕ
           r = m .rank
 
-          same : m .lvl ≡ i
-          same = G .level-of (m .rank) p (m .lvl) i (m .on) on (m .queue)
+          same : m .level ≡ i
+          same = G .level-of (m .rank) p (m .level) i (m .on) on (m .queue)
 
-          on′ : On (T .top r) i
+          on′ : On (T .own-level r) i
           on′ = omega (arith, same, m .on)
 
-          queue′ : T .elem r i ≡ T .elem p i
-          queue′ = ap (T .elem r) (sym same) ∙ m .queue
+          queue′ : T .element r i ≡ T .element p i
+          queue′ = ap (T .element r) (sym same) ∙ m .queue
 
-          is′ : s .node-at (T .elem p i) (suc (s .head-turn (T .elem p i))) ≡ T .node r i
+          is′ : s .node-at (T .element p i) (suc (s .head-turn (T .element p i))) ≡ T .node r i
           is′ = m .is ∙ ap (T .node r) same
 
           g : (t ≡ s .nexts (T .node p i)) × (t ≢ 0)
           g = asked T s v p (give h i t) e
 
-          here : (b : Behind T s r i) → s .node-at (T .elem r i) (b .turn) ≡ T .node p i
-          here b = rw (queue′, turn-is (T .elem p i) (s .head-turn (T .elem p i)) r i queue′ (omega arith) more is′ b)
+          here : (b : Behind T s r i) → s .node-at (T .element r i) (b .turn) ≡ T .node p i
+          here b = rw
+              (queue′, turn-is (T .element p i) (s .head-turn (T .element p i)) r i queue′ (omega arith) more is′ b)
               (hd .is)
 
           by : (s .phases r ≡ wait i) ⊎ ((u : ℕ) × (s .phases r ≡ link i u)) → Successor T s p i t
@@ -229,6 +238,6 @@ module _ (T : Tree) (G : Lawful T) (s : State) (v : Inv T s) where
       let u : Occupant T s m b = occupant m b h h′ in
       let z : k ≡ m =
       sym (o .queue)
-      ∙ (G .queue-of (o .rank) (u .rank) (o .lvl) (u .lvl) (o .on) (u .on) (sym (o .is) ∙ (e ∙ u .is)) .1
+      ∙ (G .queue-of (o .rank) (u .rank) (o .level) (u .level) (o .on) (u .on) (sym (o .is) ∙ (e ∙ u .is)) .1
       ∙ u .queue) in
       (z, v .once k a b l l′ (rw z h) (rw z h′) (e ∙ ap (λ x. s .node-at x b) (sym z)))

@@ -5,15 +5,15 @@ use mathlib.Core.Logic.{_⊎_, inl, inr, _≢_, ⊎-elim}
 use native.Mathlib.Omega.{arith}
 use Rattle.std.proofs.shelf.Tests.{cases-eq}
 use Rattle.queues.specs.Machine.{On}
-use Rattle.queues.specs.Counters.{total, pick, Load, none, trying, inside, leaving, carrying, clearing, tries, reads}
+use Rattle.queues.specs.Counters.{total, pick, Load, none, trying, inside, leaving, carrying, clearing, tries, admits}
 use Rattle.queues.specs.Counters.{clears, Gate, shut, raising, checking, reading, wide, lowering, Marks, Keeps, Tally}
-use Rattle.queues.specs.Counters.{F, Count, Counted}
+use Rattle.queues.specs.Counters.{write-bit, Count, Counted}
 use Rattle.queues.proofs.Split.{split}
 use Rattle.queues.proofs.Sum.{total-same, total-swap, total-part, pick-same, pick-other}
 
 -- one weight of the load l is that of the load m at every counter but c
 abbrev pub Local : Load → Load → ℕ → Type 0
-Local l m c = (d : ℕ) → d ≢ c → (tries m d ≡ tries l d) × (reads m d ≡ reads l d) × (clears m d ≡ clears l d)
+Local l m c = (d : ℕ) → d ≢ c → (tries m d ≡ tries l d) × (admits m d ≡ admits l d) × (clears m d ≡ clears l d)
 
 -- rank p's load changes, and with it the words of the counter c
 pub record Shift (s : Tally) (p c : ℕ) (load : ℕ → Load) (arrives departs : ℕ → ℕ) : Type 0 where
@@ -45,23 +45,23 @@ shifted s load arrives departs =
 -- rows R1 (refused), R2, R5, R6, R7, U6 and a reader's leave: nobody comes in, and what is counted moves or falls
 pub record Drains (s : Tally) (p c : ℕ) (load : ℕ → Load) (arrives departs : ℕ → ℕ) : Type 0 where
   pub shift : Shift s p c load arrives departs
-  pub flow : arrives c + s .departs c + tries (s .load p) c + reads (s .load p) c + clears (s .load p) c
-      ≡ s .arrives c + departs c + tries (load p) c + reads (load p) c + clears (load p) c
-  pub fall : departs c + reads (load p) c + clears (load p) c
-      ≤ s .departs c + reads (s .load p) c + clears (s .load p) c
-  pub fall-reads : departs c + reads (load p) c ≤ s .departs c + reads (s .load p) c
+  pub flow : arrives c + s .departs c + tries (s .load p) c + admits (s .load p) c + clears (s .load p) c
+      ≡ s .arrives c + departs c + tries (load p) c + admits (load p) c + clears (load p) c
+  pub fall : departs c + admits (load p) c + clears (load p) c
+      ≤ s .departs c + admits (s .load p) c + clears (s .load p) c
+  pub fall-admits : departs c + admits (load p) c ≤ s .departs c + admits (s .load p) c
   pub outside : (d : ℕ) → load p ≢ inside d
 
-module _ (P C TR : ℕ) (s : Tally) (v : Counted P C TR s) (p c : ℕ) (on : On P p) (load : ℕ → Load)
+module _ (P C limit : ℕ) (s : Tally) (v : Counted P C limit s) (p c : ℕ) (on : On P p) (load : ℕ → Load)
     (arrives departs : ℕ → ℕ) (m : Drains s p c load arrives departs) where
   abbrev s′ : Tally
   s′ = shifted s load arrives departs
 
-  here : c < C → Count P TR s′ c
+  here : c < C → Count P limit s′ c
   here l =
       let o = v .each c l in
       let a = moves P s p c on load arrives departs (m .shift) tries in
-      let b = moves P s p c on load arrives departs (m .shift) reads in
+      let b = moves P s p c on load arrives departs (m .shift) admits in
       let x = moves P s p c on load arrives departs (m .shift) clears in
       record {
         sum = omega (arith, o .sum, m .flow);
@@ -70,33 +70,34 @@ module _ (P C TR : ℕ) (s : Tally) (v : Counted P C TR s) (p c : ℕ) (on : On 
         stands = o .stands;
       }
 
-  there : (d : ℕ) → d ≢ c → d < C → Count P TR s′ d
+  there : (d : ℕ) → d ≢ c → d < C → Count P limit s′ d
   there d ne l =
       let o = v .each d l in
       let w = m .shift .local d ne in
       let a = away P s p c on load arrives departs (m .shift) tries d (w .0) in
-      let b = away P s p c on load arrives departs (m .shift) reads d (w .1) in
+      let b = away P s p c on load arrives departs (m .shift) admits d (w .1) in
       let x = away P s p c on load arrives departs (m .shift) clears d (w .2) in
       let y = m .shift .arrive-other d ne in
       let z = m .shift .depart-other d ne in
       record { sum = omega (arith, o .sum); small = omega (arith, o .small); bits = o .bits; stands = o .stands }
 
-  seen′ : (k : ℕ) → (q n : ℕ) → s .gate q ≡ reading k n → F + departs k + total P (λ p. reads (load p) k) ≤ n
+  seen′ : (k : ℕ) → (q n : ℕ) → s .gate q ≡ reading k n → write-bit + departs k + total P (λ p. admits (load p) k) ≤ n
   seen′ = split c
-      (λ k. (q n : ℕ) → s .gate q ≡ reading k n → F + departs k + total P (λ p. reads (load p) k) ≤ n)
-      (λ q n e. omega (arith, v .seen q c n e, m .fall-reads, moves P s p c on load arrives departs (m .shift) reads))
+      (λ k. (q n : ℕ) → s .gate q ≡ reading k n → write-bit + departs k + total P (λ p. admits (load p) k) ≤ n)
+      (λ q n e.
+      omega (arith, v .seen q c n e, m .fall-admits, moves P s p c on load arrives departs (m .shift) admits))
       (λ k ne q n e.
       omega (
         arith,
         v .seen q k n e,
         m .shift .depart-other k ne,
-        away P s p c on load arrives departs (m .shift) reads k (m .shift .local k ne .1),
+        away P s p c on load arrives departs (m .shift) admits k (m .shift .local k ne .1),
       ))
 
-  pub drained : Counted P C TR s′
+  pub drained : Counted P C limit s′
   drained =
       record {
-        each = split c (λ d. d < C → Count P TR s′ d) here there;
+        each = split c (λ d. d < C → Count P limit s′ d) here there;
         marked = v .marked;
         kept = λ r d l k.
             split p
@@ -107,32 +108,32 @@ module _ (P C TR : ℕ) (s : Tally) (v : Counted P C TR s) (p c : ℕ) (on : On 
       }
 
 -- row R1 when it enters: the old word was below TR, so no bit stands
-pub record Enters (TR : ℕ) (s : Tally) (p c : ℕ) (load : ℕ → Load) (arrives : ℕ → ℕ) : Type 0 where
+pub record Enters (limit : ℕ) (s : Tally) (p c : ℕ) (load : ℕ → Load) (arrives : ℕ → ℕ) : Type 0 where
   pub shift : Shift s p c load arrives (s .departs)
   pub before : s .load p ≡ none
   pub after : load p ≡ inside c
   pub word : arrives c ≡ suc (s .arrives c)
-  pub room : s .arrives c < TR
+  pub room : s .arrives c < limit
 
-module _ (P C TR : ℕ) (cap : TR ≤ F) (s : Tally) (v : Counted P C TR s) (p c : ℕ) (in-c : c < C) (on : On P p)
-    (load : ℕ → Load) (arrives : ℕ → ℕ) (m : Enters TR s p c load arrives) where
+module _ (P C limit : ℕ) (threshold-fits : limit ≤ write-bit) (s : Tally) (v : Counted P C limit s) (p c : ℕ)
+    (in-c : c < C) (on : On P p) (load : ℕ → Load) (arrives : ℕ → ℕ) (m : Enters limit s p c load arrives) where
   abbrev e′ : Tally
   e′ = shifted s load arrives (s .departs)
 
   no-bit : s .bit c ≡ 0
   no-bit = let o = v .each c in-c in omega (arith, o .sum, o .bits, m .room)
 
-  t-old : (tries (s .load p) c ≡ 0) × (reads (s .load p) c ≡ 0) × (clears (s .load p) c ≡ 0)
+  t-old : (tries (s .load p) c ≡ 0) × (admits (s .load p) c ≡ 0) × (clears (s .load p) c ≡ 0)
   t-old = rw (m .before) (refl, refl, refl)
 
-  t-new : (tries (load p) c ≡ 0) × (reads (load p) c ≡ 1) × (clears (load p) c ≡ 0)
+  t-new : (tries (load p) c ≡ 0) × (admits (load p) c ≡ 1) × (clears (load p) c ≡ 0)
   t-new = rw (m .after) (refl, pick-same c 1, refl)
 
-  enter-here : Count P TR e′ c
+  enter-here : Count P limit e′ c
   enter-here =
       let o = v .each c in-c in
       let a = moves P s p c on load arrives (s .departs) (m .shift) tries in
-      let b = moves P s p c on load arrives (s .departs) (m .shift) reads in
+      let b = moves P s p c on load arrives (s .departs) (m .shift) admits in
       let x = moves P s p c on load arrives (s .departs) (m .shift) clears in
       record {
         sum = omega (arith, o .sum, m .word, t-old, t-new);
@@ -141,12 +142,12 @@ module _ (P C TR : ℕ) (cap : TR ≤ F) (s : Tally) (v : Counted P C TR s) (p c
         stands = o .stands;
       }
 
-  enter-there : (d : ℕ) → d ≢ c → d < C → Count P TR e′ d
+  enter-there : (d : ℕ) → d ≢ c → d < C → Count P limit e′ d
   enter-there d ne l =
       let o = v .each d l in
       let w = m .shift .local d ne in
       let a = away P s p c on load arrives (s .departs) (m .shift) tries d (w .0) in
-      let b = away P s p c on load arrives (s .departs) (m .shift) reads d (w .1) in
+      let b = away P s p c on load arrives (s .departs) (m .shift) admits d (w .1) in
       let x = away P s p c on load arrives (s .departs) (m .shift) clears d (w .2) in
       let y = m .shift .arrive-other d ne in
       record { sum = omega (arith, o .sum); small = omega (arith, o .small); bits = o .bits; stands = o .stands }
@@ -166,10 +167,10 @@ module _ (P C TR : ℕ) (cap : TR ≤ F) (s : Tally) (v : Counted P C TR s) (p c
   inside-one : (a b : ℕ) → inside a ≡ inside b → a ≡ b
   inside-one a b e = cc
 
-  pub entered : Counted P C TR e′
+  pub entered : Counted P C limit e′
   entered =
       record {
-        each = split c (λ d. d < C → Count P TR e′ d) (λ _. enter-here) enter-there;
+        each = split c (λ d. d < C → Count P limit e′ d) (λ _. enter-here) enter-there;
         marked = v .marked;
         kept = λ r d l k.
             split p
@@ -181,22 +182,22 @@ module _ (P C TR : ℕ) (cap : TR ≤ F) (s : Tally) (v : Counted P C TR s) (p c
             (λ q a on′ z. v .kept r d l k q on′ (sym (m .shift .others q a) ∙ z));
         seen = λ q k n e.
             split c
-            (λ k. s .gate q ≡ reading k n → F + s .departs k + total P (λ p. reads (load p) k) ≤ n)
+            (λ k. s .gate q ≡ reading k n → write-bit + s .departs k + total P (λ p. admits (load p) k) ≤ n)
             (λ e. absurd (unmarked q (subst (λ g. Marks g c) (sym e) tt)))
             (λ k ne e.
             omega (
               arith,
               v .seen q k n e,
-              away P s p c on load arrives (s .departs) (m .shift) reads k (m .shift .local k ne .1),
+              away P s p c on load arrives (s .departs) (m .shift) admits k (m .shift .local k ne .1),
             ))
             k
             e;
       }
 
 -- row W9: where the word read before is F and the departures, nobody of the counter is in
-pub nobody-in : (P C TR : ℕ) (s : Tally) → Counted P C TR s → (p k n : ℕ) → s .gate p ≡ reading k n
-    → n ≡ F + s .departs k → (q : ℕ) → On P q → s .load q ≢ inside k
-nobody-in P C TR s v p k n e z q on w =
-    let a : reads (s .load q) k ≤ total P (λ p. reads (s .load p) k) = total-part P (λ p. reads (s .load p) k) q on in
-    let b : reads (s .load q) k ≡ 1 = ap (λ l. reads l k) w ∙ pick-same k 1 in
-    omega (arith, v .seen p k n e)
+pub nobody-in : (P C limit : ℕ) (s : Tally) → Counted P C limit s → (p k n : ℕ) → s .gate p ≡ reading k n
+    → n ≡ write-bit + s .departs k → (q : ℕ) → On P q → s .load q ≢ inside k
+nobody-in P C limit s v p k n e z q on w =
+    let a : admits (s .load q) k ≤ total P (λ p. admits (s .load p) k) =
+    total-part P (λ p. admits (s .load p) k) q on in
+    let b : admits (s .load q) k ≡ 1 = ap (λ l. admits l k) w ∙ pick-same k 1 in omega (arith, v .seen p k n e)

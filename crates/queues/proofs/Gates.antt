@@ -4,9 +4,9 @@ use mathlib.Core.Path.{_≡_, refl, sym, _∙_, ap, subst}
 use mathlib.Core.Logic.{_⊎_, inl, inr, _≢_, ⊎-elim}
 use native.Mathlib.Omega.{arith}
 use Rattle.queues.specs.Machine.{On}
-use Rattle.queues.specs.Counters.{total, pick, Load, none, trying, inside, leaving, carrying, clearing, tries, reads}
+use Rattle.queues.specs.Counters.{total, pick, Load, none, trying, inside, leaving, carrying, clearing, tries, admits}
 use Rattle.queues.specs.Counters.{clears, Gate, shut, raising, checking, reading, wide, lowering, Marks, Keeps, Tally}
-use Rattle.queues.specs.Counters.{F, Count, Counted}
+use Rattle.queues.specs.Counters.{write-bit, Count, Counted}
 use Rattle.queues.proofs.Split.{split, split₂}
 use Rattle.queues.proofs.Counters.{Shift, moves, away}
 
@@ -22,29 +22,31 @@ pub record Flips (P C : ℕ) (s : Tally) (p k : ℕ) (s′ : Tally) : Type 0 whe
   pub shift : Shift s p k (s′ .load) (s′ .arrives) (s′ .departs)
   pub bit-other : (d : ℕ) → d ≢ k → s′ .bit d ≡ s .bit d
   pub bit-small : s′ .bit k ≤ 1
-  pub flow : s′ .arrives k + F * s .bit k + s .departs k + tries (s .load p) k + reads (s .load p) k
+  pub flow : s′ .arrives k + write-bit * s .bit k + s .departs k + tries (s .load p) k + admits (s .load p) k
       + clears (s .load p) k
-      ≡ s .arrives k + F * s′ .bit k + s′ .departs k + tries (s′ .load p) k + reads (s′ .load p) k
+      ≡ s .arrives k + write-bit * s′ .bit k + s′ .departs k + tries (s′ .load p) k + admits (s′ .load p) k
       + clears (s′ .load p) k
-  pub fall : s′ .departs k + reads (s′ .load p) k + clears (s′ .load p) k
-      ≤ s .departs k + reads (s .load p) k + clears (s .load p) k
+  pub fall : s′ .departs k + admits (s′ .load p) k + clears (s′ .load p) k
+      ≤ s .departs k + admits (s .load p) k + clears (s .load p) k
   pub gates : (q : ℕ) → q ≢ p → s′ .gate q ≡ s .gate q
   pub alone : (q : ℕ) → q ≢ p → s .gate q ≡ shut
   pub marks : (c : ℕ) → c < C → Marks (s′ .gate p) c → s′ .bit c ≡ 1
   pub stands : (c : ℕ) → c < C → s′ .bit c ≡ 1 → Marks (s′ .gate p) c
   pub keeps : (c : ℕ) → c < C → Keeps (s′ .gate p) c → (q : ℕ) → On P q → s′ .load q ≢ inside c
-  pub sees : (j n : ℕ) → s′ .gate p ≡ reading j n → F + s′ .departs j + total P (λ p. reads (s′ .load p) j) ≤ n
+  pub sees : (j n : ℕ) → s′ .gate p ≡ reading j n
+      → write-bit + s′ .departs j + total P (λ p. admits (s′ .load p) j) ≤ n
 
-module _ (P C TR : ℕ) (s : Tally) (v : Counted P C TR s) (p k : ℕ) (on : On P p) (s′ : Tally) (m : Flips P C s p k s′)
+module _ (P C limit : ℕ) (s : Tally) (v : Counted P C limit s) (p k : ℕ) (on : On P p) (s′ : Tally)
+    (m : Flips P C s p k s′)
   where
     shut-o : (q : ℕ) → q ≢ p → s′ .gate q ≡ shut
     shut-o q a = m .gates q a ∙ m .alone q a
 
-    here : k < C → Count P TR s′ k
+    here : k < C → Count P limit s′ k
     here l =
         let o = v .each k l in
         let a = moves P s p k on (s′ .load) (s′ .arrives) (s′ .departs) (m .shift) tries in
-        let b = moves P s p k on (s′ .load) (s′ .arrives) (s′ .departs) (m .shift) reads in
+        let b = moves P s p k on (s′ .load) (s′ .arrives) (s′ .departs) (m .shift) admits in
         let x = moves P s p k on (s′ .load) (s′ .arrives) (s′ .departs) (m .shift) clears in
         record {
           sum = omega (arith, o .sum, m .flow);
@@ -53,12 +55,12 @@ module _ (P C TR : ℕ) (s : Tally) (v : Counted P C TR s) (p k : ℕ) (on : On 
           stands = λ z. (p, m .stands k l z);
         }
 
-    there : (d : ℕ) → d ≢ k → d < C → Count P TR s′ d
+    there : (d : ℕ) → d ≢ k → d < C → Count P limit s′ d
     there d ne l =
         let o = v .each d l in
         let w = m .shift .local d ne in
         let a = away P s p k on (s′ .load) (s′ .arrives) (s′ .departs) (m .shift) tries d (w .0) in
-        let b = away P s p k on (s′ .load) (s′ .arrives) (s′ .departs) (m .shift) reads d (w .1) in
+        let b = away P s p k on (s′ .load) (s′ .arrives) (s′ .departs) (m .shift) admits d (w .1) in
         let x = away P s p k on (s′ .load) (s′ .arrives) (s′ .departs) (m .shift) clears d (w .2) in
         let y = m .shift .arrive-other d ne in
         let z = m .shift .depart-other d ne in
@@ -70,10 +72,10 @@ module _ (P C TR : ℕ) (s : Tally) (v : Counted P C TR s) (p k : ℕ) (on : On 
           stands = λ z. (p, m .stands d l z);
         }
 
-    pub flipped : Counted P C TR s′
+    pub flipped : Counted P C limit s′
     flipped =
         record {
-          each = split k (λ d. d < C → Count P TR s′ d) here there;
+          each = split k (λ d. d < C → Count P limit s′ d) here there;
           marked = split p
               (λ q. (c : ℕ) → c < C → Marks (s′ .gate q) c → s′ .bit c ≡ 1)
               (m .marks)
@@ -83,7 +85,9 @@ module _ (P C TR : ℕ) (s : Tally) (v : Counted P C TR s) (p k : ℕ) (on : On 
               (m .keeps)
               (λ q a c l w. absurd (subst (λ g. Keeps g c) (shut-o q a) w));
           seen = split p
-              (λ q. (j n : ℕ) → s′ .gate q ≡ reading j n → F + s′ .departs j + total P (λ p. reads (s′ .load p) j) ≤ n)
+              (λ q.
+              (j n : ℕ) → s′ .gate q ≡ reading j n
+              → write-bit + s′ .departs j + total P (λ p. admits (s′ .load p) j) ≤ n)
               (m .sees)
               (λ q a j n e. absurd (subst (λ g. Marks g j) (sym e ∙ shut-o q a) tt));
         }
@@ -96,9 +100,15 @@ pub record Trades (s : Tally) (p r : ℕ) (gate : ℕ → Gate) : Type 0 where
   pub takes : gate r ≡ wide
   pub gates : (q : ℕ) → q ≢ p → q ≢ r → gate q ≡ s .gate q
 
-pub traded : (P C TR : ℕ) (s : Tally) → Counted P C TR s → (p r : ℕ) (gate : ℕ → Gate) → Trades s p r gate
-    → Counted P C TR (record { load = s .load; gate = gate; arrives = s .arrives; departs = s .departs; bit = s .bit })
-traded P C TR s v p r gate m =
+pub traded : (P C limit : ℕ) (s : Tally) → Counted P C limit s → (p r : ℕ) (gate : ℕ → Gate) → Trades s p r gate
+    → Counted P C limit (record {
+      load = s .load;
+      gate = gate;
+      arrives = s .arrives;
+      departs = s .departs;
+      bit = s .bit;
+    })
+traded P C limit s v p r gate m =
     record {
       each = λ c l.
           let o = v .each c l in
@@ -119,7 +129,7 @@ traded P C TR s v p r gate m =
           (λ c l w. v .kept p c l (subst (λ g. Keeps g c) (sym (m .was)) tt))
           (λ q a b c l w. absurd (subst (λ g. Keeps g c) (m .gates q a b ∙ m .alone q a) w));
       seen = split₂ p r
-          (λ q. (j n : ℕ) → gate q ≡ reading j n → F + s .departs j + total P (λ p. reads (s .load p) j) ≤ n)
+          (λ q. (j n : ℕ) → gate q ≡ reading j n → write-bit + s .departs j + total P (λ p. admits (s .load p) j) ≤ n)
           (λ j n e. absurd (subst (λ g. Marks g j) (sym e ∙ m .gives) tt))
           (λ j n e. absurd (subst NotWide (sym (m .takes) ∙ e) tt))
           (λ q a b j n e. absurd (subst (λ g. Marks g j) (sym e ∙ (m .gates q a b ∙ m .alone q a)) tt));

@@ -4,7 +4,7 @@ use mathlib.Core.Path.{_≡_, refl, sym, _∙_, ap, subst}
 use mathlib.Core.Logic.{_⊎_, inl, inr, _≢_, ⊎-elim}
 use native.Mathlib.Omega.{arith}
 use Rattle.std.proofs.shelf.Tests.{cases-eq, cases-order}
-use Rattle.queues.specs.Machine.{Tree, Lawful, On, Phase, out, fresh, clean, ready, link, wait, hold, give, level}
+use Rattle.queues.specs.Machine.{Tree, Lawful, On, Phase, out, fresh, clean, ready, link, wait, hold, give, hold-level}
 use Rattle.queues.specs.Machine.{InRange, Waits, Calm, State, Inv, Holder, Member, Heads, Behind, Linking, Waiting}
 use Rattle.queues.specs.Machine.{Asks}
 use Rattle.queues.proofs.Base.{range-of, one-holder, one-owner, waits-level, waits-on, Successor, successor}
@@ -22,13 +22,13 @@ passed s phases head-turn =
     }
 
 pub record Passes (T : Tree) (s : State) (p r h i : ℕ) (phases : ℕ → Phase) (head-turn : ℕ → ℕ) : Type 0 where
-  pub giver : level (T .top p) (phases p) ≡ suc i
+  pub giver : hold-level (T .own-level p) (phases p) ≡ suc i
   pub calm : Calm (phases p)
-  pub in-range : InRange (T .top p) (phases p)
+  pub in-range : InRange (T .own-level p) (phases p)
   pub taker : phases r ≡ hold h
   pub others : (q : ℕ) → q ≢ p → q ≢ r → phases q ≡ s .phases q
-  pub head-gone : head-turn (T .elem p i) ≡ suc (s .head-turn (T .elem p i))
-  pub stay : (k : ℕ) → k ≢ T .elem p i → head-turn k ≡ s .head-turn k
+  pub head-gone : head-turn (T .element p i) ≡ suc (s .head-turn (T .element p i))
+  pub stay : (k : ℕ) → k ≢ T .element p i → head-turn k ≡ s .head-turn k
 
 module _ (T : Tree) (G : Lawful T) (s : State) (v : Inv T s) (p h i t : ℕ) (e : s .phases p ≡ give h i t)
     (n : Successor T s p i t) (phases : ℕ → Phase) (head-turn : ℕ → ℕ)
@@ -39,43 +39,44 @@ module _ (T : Tree) (G : Lawful T) (s : State) (v : Inv T s) (p h i t : ℕ) (e 
   abbrev s′ : State
   s′ = passed s phases head-turn
 
-  rg : (1 ≤ h) × (h ≤ i) × (i ≤ T .top p)
-  rg = range-of (s .phases p) (T .top p) (v .range p) (give h i t) e
+  rg : (1 ≤ h) × (h ≤ i) × (i ≤ T .own-level p)
+  rg = range-of (s .phases p) (T .own-level p) (v .range p) (give h i t) e
 
-  on-p : On (T .top p) i
+  on-p : On (T .own-level p) i
   on-p = omega (arith, rg)
 
-  level-p : level (T .top p) (s .phases p) ≡ h
-  level-p = ap (level (T .top p)) e
+  level-p : hold-level (T .own-level p) (s .phases p) ≡ h
+  level-p = ap (hold-level (T .own-level p)) e
 
-  level-r : level (T .top r) (s .phases r) ≡ suc i
-  level-r = ap (level (T .top r)) (n .waits)
+  level-r : hold-level (T .own-level r) (s .phases r) ≡ suc i
+  level-r = ap (hold-level (T .own-level r)) (n .waits)
 
-  level-r′ : level (T .top r) (phases r) ≡ h
-  level-r′ = ap (level (T .top r)) (c .taker)
+  level-r′ : hold-level (T .own-level r) (phases r) ≡ h
+  level-r′ = ap (hold-level (T .own-level r)) (c .taker)
 
-  level-o : (q : ℕ) → q ≢ p → q ≢ r → level (T .top q) (phases q) ≡ level (T .top q) (s .phases q)
-  level-o q a b = ap (level (T .top q)) (c .others q a b)
+  level-o : (q : ℕ) → q ≢ p → q ≢ r
+      → hold-level (T .own-level q) (phases q) ≡ hold-level (T .own-level q) (s .phases q)
+  level-o q a b = ap (hold-level (T .own-level q)) (c .others q a b)
 
   -- an element of another level is another element
-  differs : (q j : ℕ) → On (T .top q) j → j ≢ i → T .elem q j ≢ T .elem p i
+  differs : (q j : ℕ) → On (T .own-level q) j → j ≢ i → T .element q j ≢ T .element p i
   differs q j on ne eq = ne (G .level-of q p j i on on-p eq)
 
   head-grows : (k : ℕ) → s .head-turn k ≤ head-turn k
-  head-grows = split (T .elem p i)
+  head-grows = split (T .element p i)
       (λ k. s .head-turn k ≤ head-turn k)
       (omega (arith, c .head-gone))
       (λ k ne. omega (arith, c .stay k ne))
 
-  range′ : (q : ℕ) → InRange (T .top q) (phases q)
+  range′ : (q : ℕ) → InRange (T .own-level q) (phases q)
   range′ = split₂ p r
-      (λ q. InRange (T .top q) (phases q))
+      (λ q. InRange (T .own-level q) (phases q))
       (c .in-range)
       (rw (c .taker) (omega (arith, rg, n .on)))
       (λ q a b. rw (c .others q a b) (v .range q))
 
   order′ : (k : ℕ) → head-turn k ≤ s .next-turn k
-  order′ = split (T .elem p i)
+  order′ = split (T .element p i)
       (λ k. head-turn k ≤ s .next-turn k)
       (omega (arith, c .head-gone, n .more))
       (λ k ne. omega (arith, c .stay k ne, v .order k))
@@ -85,24 +86,27 @@ module _ (T : Tree) (G : Lawful T) (s : State) (v : Inv T s) (p h i t : ℕ) (e 
   once′ k a b l l′ m m′ q = v .once k a b (omega (arith, head-grows k)) l′ (omega (arith, head-grows k)) m′ q
 
   empty′ : (k : ℕ) → head-turn k ≡ s .next-turn k → s .tails k ≡ 0
-  empty′ = split (T .elem p i)
+  empty′ = split (T .element p i)
       (λ k. head-turn k ≡ s .next-turn k → s .tails k ≡ 0)
       (λ z. absurd (omega (arith, c .head-gone, n .more)))
       (λ k ne z. v .empty k (omega (arith, c .stay k ne)))
 
   -- a holder in another queue keeps its head
-  kept : (q j : ℕ) → T .elem q j ≢ T .elem p i → Heads T s q j → Heads T s′ q j
+  kept : (q j : ℕ) → T .element q j ≢ T .element p i → Heads T s q j → Heads T s′ q j
   kept q j ne o =
-      record { some = omega (arith, c .stay (T .elem q j) ne, o .some); is = rw (c .stay (T .elem q j) ne) (o .is) }
+      record {
+        some = omega (arith, c .stay (T .element q j) ne, o .some);
+        is = rw (c .stay (T .element q j) ne) (o .is);
+      }
 
-  heads-p : (j : ℕ) → On (T .top p) j → level (T .top p) (phases p) ≤ j → Heads T s′ p j
+  heads-p : (j : ℕ) → On (T .own-level p) j → hold-level (T .own-level p) (phases p) ≤ j → Heads T s′ p j
   heads-p j on l =
       kept p j (differs p j on (omega (arith, c .giver))) (v .heads p j on (omega (arith, c .giver, level-p, rg)))
 
   -- above the hand-over the two ranks have one way up
-  shares : (j : ℕ) → 1 ≤ j → j < i → (T .elem r j ≡ T .elem p j) × (T .node r j ≡ T .node p j)
+  shares : (j : ℕ) → 1 ≤ j → j < i → (T .element r j ≡ T .element p j) × (T .node r j ≡ T .node p j)
   shares j on l =
-      let up : (m : ℕ) → 1 ≤ m → m ≤ i → T .elem r m ≡ T .elem p m =
+      let up : (m : ℕ) → 1 ≤ m → m ≤ i → T .element r m ≡ T .element p m =
       λ m a b. G .above r p i m (n .on) on-p (omega (arith, n .on)) b (n .queue) in (
         up j on (omega arith),
         G .shared r p j (omega (arith, n .on)) (omega (arith, n .on)) (omega (arith, on-p))
@@ -118,7 +122,7 @@ module _ (T : Tree) (G : Lawful T) (s : State) (v : Inv T s) (p h i t : ℕ) (e 
       let hd : Heads T s p j = v .heads p j (omega (arith, on-p)) (omega (arith, level-p)) in
       record { some = rw (sh .0) (hd .some); is = rw (sh .0, sh .1) (hd .is) }
 
-  heads-r : (j : ℕ) → On (T .top r) j → level (T .top r) (phases r) ≤ j → Heads T s′ r j
+  heads-r : (j : ℕ) → On (T .own-level r) j → hold-level (T .own-level r) (phases r) ≤ j → Heads T s′ r j
   heads-r j on l = by (cases-order j i)
     where
       by : (j ≡ i) ⊎ ((j < i) ⊎ (i < j)) → Heads T s′ r j
@@ -126,20 +130,21 @@ module _ (T : Tree) (G : Lawful T) (s : State) (v : Inv T s) (p h i t : ℕ) (e 
       by (inr (inl z)) = kept r j (differs r j on (omega arith)) (heads-up j (on .from) (omega (arith, level-r′)) z)
       by (inr (inr z)) = kept r j (differs r j on (omega arith)) (v .heads r j on (omega (arith, level-r)))
 
-  heads-o : (q : ℕ) → q ≢ p → q ≢ r → (j : ℕ) → On (T .top q) j → level (T .top q) (phases q) ≤ j → Heads T s′ q j
+  heads-o : (q : ℕ) → q ≢ p → q ≢ r → (j : ℕ) → On (T .own-level q) j → hold-level (T .own-level q) (phases q) ≤ j
+      → Heads T s′ q j
   heads-o q a b j on l =
-      let l′ : level (T .top q) (s .phases q) ≤ j = omega (arith, level-o q a b) in
+      let l′ : hold-level (T .own-level q) (s .phases q) ≤ j = omega (arith, level-o q a b) in
       kept q j
       (λ w.
       let z : j ≡ i = G .level-of q p j i on on-p w in
       a
       (one-holder T G s v q p j on (omega (arith, on-p)) l′ (omega (arith, level-p, rg))
-      (w ∙ ap (T .elem p) (sym z))))
+      (w ∙ ap (T .element p) (sym z))))
       (v .heads q j on l′)
 
-  heads′ : (q j : ℕ) → On (T .top q) j → level (T .top q) (phases q) ≤ j → Heads T s′ q j
+  heads′ : (q j : ℕ) → On (T .own-level q) j → hold-level (T .own-level q) (phases q) ≤ j → Heads T s′ q j
   heads′ = split₂ p r
-      (λ q. (j : ℕ) → On (T .top q) j → level (T .top q) (phases q) ≤ j → Heads T s′ q j)
+      (λ q. (j : ℕ) → On (T .own-level q) j → hold-level (T .own-level q) (phases q) ≤ j → Heads T s′ q j)
       heads-p
       heads-r
       heads-o
@@ -147,18 +152,19 @@ module _ (T : Tree) (G : Lawful T) (s : State) (v : Inv T s) (p h i t : ℕ) (e 
   -- the turn of a rank that waits on: it is not the taker's
   behind : (q j : ℕ) → q ≢ r → Waits (s .phases q) j → Behind T s q j → Behind T s′ q j
   behind q j ne w b =
-      record { turn = b .turn; low = low (cases-eq (T .elem q j) (T .elem p i)); high = b .high; is = b .is }
+      record { turn = b .turn; low = low (cases-eq (T .element q j) (T .element p i)); high = b .high; is = b .is }
     where
-      clash : T .elem q j ≡ T .elem p i → b .turn ≢ s .head-turn (T .elem p i)
+      clash : T .element q j ≡ T .element p i → b .turn ≢ s .head-turn (T .element p i)
       clash z y = ne
           (one-owner T G s v q r j i (waits-on T G s v q j w) (n .on) (omega (arith, waits-level T G s v q j w))
           (omega (arith, level-r)) (sym (b .is) ∙ (rw (z, y) (n .is))) .0)
 
-      low : (T .elem q j ≡ T .elem p i) ⊎ (T .elem q j ≡ T .elem p i → ⊥) → head-turn (T .elem q j) ≤ b .turn
+      low : (T .element q j ≡ T .element p i) ⊎ (T .element q j ≡ T .element p i → ⊥)
+          → head-turn (T .element q j) ≤ b .turn
       low (inl z) =
-          let l : s .head-turn (T .elem p i) ≤ b .turn = rw z at (b .low) in
+          let l : s .head-turn (T .element p i) ≤ b .turn = rw z at (b .low) in
           rw (z, c .head-gone) (omega (arith, clash z))
-      low (inr z) = rw (c .stay (T .elem q j) z) (b .low)
+      low (inr z) = rw (c .stay (T .element q j) z) (b .low)
 
   asks-o : (q : ℕ) → q ≢ r → (f : Phase) → s .phases q ≡ f → Asks T s q f → Asks T s′ q f
   unfolding behind
@@ -185,16 +191,16 @@ module _ (T : Tree) (G : Lawful T) (s : State) (v : Inv T s) (p h i t : ℕ) (e 
       (λ q a b. rw (c .others q a b) (asks-o q b (s .phases q) refl (v .asks q)))
 
   -- who holds an element other than the one handed over
-  holder-o : (k : ℕ) → k ≢ T .elem p i → Holder T s k → Holder T s′ k
+  holder-o : (k : ℕ) → k ≢ T .element p i → Holder T s k → Holder T s′ k
   holder-o k ne o = split₂ p r
       (λ q.
-      (j : ℕ) → On (T .top q) j → T .elem q j ≡ k → s .node-at k (s .head-turn k) ≡ T .node q j
-      → level (T .top q) (s .phases q) ≤ j → Holder T s′ k)
+      (j : ℕ) → On (T .own-level q) j → T .element q j ≡ k → s .node-at k (s .head-turn k) ≡ T .node q j
+      → hold-level (T .own-level q) (s .phases q) ≤ j → Holder T s′ k)
       from-p
       from-r
       from-o
       (o .rank)
-      (o .lvl)
+      (o .level)
       (o .on)
       (o .queue)
       (o .is)
@@ -203,49 +209,49 @@ module _ (T : Tree) (G : Lawful T) (s : State) (v : Inv T s) (p h i t : ℕ) (e 
       head-k : head-turn k ≡ s .head-turn k
       head-k = c .stay k ne
 
-      from-p : (j : ℕ) → On (T .top p) j → T .elem p j ≡ k → s .node-at k (s .head-turn k) ≡ T .node p j
-          → level (T .top p) (s .phases p) ≤ j → Holder T s′ k
+      from-p : (j : ℕ) → On (T .own-level p) j → T .element p j ≡ k → s .node-at k (s .head-turn k) ≡ T .node p j
+          → hold-level (T .own-level p) (s .phases p) ≤ j → Holder T s′ k
       from-p j on q is l = by (cases-order j i)
         where
           by : (j ≡ i) ⊎ ((j < i) ⊎ (i < j)) → Holder T s′ k
-          by (inl z) = absurd (ne (sym q ∙ ap (T .elem p) z))
+          by (inl z) = absurd (ne (sym q ∙ ap (T .element p) z))
           by (inr (inl z)) =
               let sh = shares j (on .from) z in
               record {
                 rank = r;
-                lvl = j;
+                level = j;
                 on = omega (arith, n .on);
                 queue = sh .0 ∙ q;
                 is = rw head-k (is ∙ sym (sh .1));
                 holds = omega (arith, level-r′, level-p);
               }
           by (inr (inr z)) =
-              record { rank = p; lvl = j; on = on; queue = q; is = rw head-k is; holds = omega (arith, c .giver) }
+              record { rank = p; level = j; on = on; queue = q; is = rw head-k is; holds = omega (arith, c .giver) }
 
-      from-r : (j : ℕ) → On (T .top r) j → T .elem r j ≡ k → s .node-at k (s .head-turn k) ≡ T .node r j
-          → level (T .top r) (s .phases r) ≤ j → Holder T s′ k
+      from-r : (j : ℕ) → On (T .own-level r) j → T .element r j ≡ k → s .node-at k (s .head-turn k) ≡ T .node r j
+          → hold-level (T .own-level r) (s .phases r) ≤ j → Holder T s′ k
       from-r j on q is l =
           record {
             rank = r;
-            lvl = j;
+            level = j;
             on = on;
             queue = q;
             is = rw head-k is;
             holds = omega (arith, level-r, level-r′, rg);
           }
 
-      from-o : (x : ℕ) → x ≢ p → x ≢ r → (j : ℕ) → On (T .top x) j → T .elem x j ≡ k
-          → s .node-at k (s .head-turn k) ≡ T .node x j → level (T .top x) (s .phases x) ≤ j → Holder T s′ k
+      from-o : (x : ℕ) → x ≢ p → x ≢ r → (j : ℕ) → On (T .own-level x) j → T .element x j ≡ k
+          → s .node-at k (s .head-turn k) ≡ T .node x j → hold-level (T .own-level x) (s .phases x) ≤ j → Holder T s′ k
       from-o x a b j on q is l =
-          record { rank = x; lvl = j; on = on; queue = q; is = rw head-k is; holds = omega (arith, level-o x a b) }
+          record { rank = x; level = j; on = on; queue = q; is = rw head-k is; holds = omega (arith, level-o x a b) }
 
   holder′ : (k : ℕ) → head-turn k < s .next-turn k → Holder T s′ k
-  holder′ = split (T .elem p i)
+  holder′ = split (T .element p i)
       (λ k. head-turn k < s .next-turn k → Holder T s′ k)
       (λ _.
       record {
         rank = r;
-        lvl = i;
+        level = i;
         on = n .on;
         queue = n .queue;
         is = rw (c .head-gone) (n .is);
@@ -257,12 +263,12 @@ module _ (T : Tree) (G : Lawful T) (s : State) (v : Inv T s) (p h i t : ℕ) (e 
   member-of k a l l′ m =
       record {
         rank = m .rank;
-        lvl = m .lvl;
+        level = m .level;
         on = m .on;
         queue = m .queue;
         is = m .is;
         waits = split₂ p r
-            (λ q. q ≡ m .rank → Waits (phases q) (m .lvl))
+            (λ q. q ≡ m .rank → Waits (phases q) (m .level))
             at-p
             at-r
             (λ q x y z. rw (c .others q x y, z) (m .waits))
@@ -270,21 +276,21 @@ module _ (T : Tree) (G : Lawful T) (s : State) (v : Inv T s) (p h i t : ℕ) (e 
             refl;
       }
     where
-      at-p : p ≡ m .rank → Waits (phases p) (m .lvl)
-      at-p z = absurd (subst (λ f. Waits f (m .lvl)) (ap (s .phases) (sym z) ∙ e) (m .waits))
+      at-p : p ≡ m .rank → Waits (phases p) (m .level)
+      at-p z = absurd (subst (λ f. Waits f (m .level)) (ap (s .phases) (sym z) ∙ e) (m .waits))
 
-      at-r : r ≡ m .rank → Waits (phases r) (m .lvl)
+      at-r : r ≡ m .rank → Waits (phases r) (m .level)
       at-r z =
-          let lv : i ≡ m .lvl = subst (λ f. Waits f (m .lvl)) (ap (s .phases) (sym z) ∙ n .waits) (m .waits) in
-          let same : T .elem p i ≡ k =
-          sym (n .queue) ∙ (ap (λ x. T .elem x i) z ∙ (ap (T .elem (m .rank)) lv ∙ m .queue)) in
+          let lv : i ≡ m .level = subst (λ f. Waits f (m .level)) (ap (s .phases) (sym z) ∙ n .waits) (m .waits) in
+          let same : T .element p i ≡ k =
+          sym (n .queue) ∙ (ap (λ x. T .element x i) z ∙ (ap (T .element (m .rank)) lv ∙ m .queue)) in
           let gone : head-turn k ≡ suc (s .head-turn k) =
           subst (λ x. head-turn x ≡ suc (s .head-turn x)) same (c .head-gone) in
           let first : s .node-at k (suc (s .head-turn k)) ≡ T .node r i =
           subst (λ x. s .node-at x (suc (s .head-turn x)) ≡ T .node r i) same (n .is) in
           let q : suc a ≡ suc (s .head-turn k) =
           v .once k (suc a) (suc (s .head-turn k)) (omega arith) l′ (omega arith) (omega arith)
-          (m .is ∙ (ap (λ x. T .node x (m .lvl)) (sym z) ∙ (ap (T .node r) (sym lv) ∙ sym first))) in
+          (m .is ∙ (ap (λ x. T .node x (m .level)) (sym z) ∙ (ap (T .node r) (sym lv) ∙ sym first))) in
           absurd (omega arith)
 
   member′ : (k a : ℕ) → head-turn k ≤ a → suc a < s .next-turn k → Member T s′ k (suc a)

@@ -7,12 +7,13 @@ use lib.Dec.{eqb, leb, ltb}
 use native.Mathlib.Omega.{arith}
 use Rattle.std.proofs.shelf.Tests.{cases-eq, cases-lt}
 use Rattle.std.proofs.shelf.Ways.{tells}
-use Rattle.queues.specs.Machine.{Tree, Lawful, On, Phase, out, fresh, clean, ready, link, wait, hold, give, level}
+use Rattle.queues.specs.Machine.{Tree, Lawful, On, Phase, out, fresh, clean, ready, link, wait, hold, give, hold-level}
 use Rattle.queues.specs.Machine.{InRange, Waits, State, Inv, Linking, Asks}
 use Rattle.queues.specs.Counters.{total}
-use Rattle.queues.specs.Rows.{Place, idle, W1, W2, W3, W4, W5, W6, W7, W8, W9, U1, U2, U3, U4, U5, U6, U7, U8, U9}
-use Rattle.queues.specs.Rows.{U10, R1, R2, R3, R4, R5, R6, R7, writes, reads, WAIT, tell, Plan, Lock, upd, phaseOf}
-use Rattle.queues.specs.Rows.{at-level, phase, view, Sound, Fine, go, row}
+use Rattle.queues.specs.Rows.{Place, Idle, W1, W2, W3, W4, W5, W6, W7, W8, W9, U1, U2, U3, U4, U5, U6, U7, U8, U9}
+use Rattle.queues.specs.Rows.{U10, R1, R2, R3, R4, R5, R6, R7, Writer, Reader, WAIT, told-status, Plan, Lock, upd}
+use Rattle.queues.specs.Rows.{phase-of}
+use Rattle.queues.specs.Rows.{status-level, phase, view, Sound, Fine, go, row}
 use Rattle.queues.specs.Whole.{Within, Safe}
 use Rattle.queues.specs.Way.{tag, Node, Move, Step, Leave, Accepts, In, exit, Accepted, act, Apt}
 use Rattle.queues.proofs.Base.{Occupant, occupant, Successor, successor, asked}
@@ -31,7 +32,7 @@ Busy f = (1 ≤ tag f) × (tag f ≤ 26)
 
 -- the field t, where there is one
 abbrev pub Aims : Tree → Place → Type 0
-Aims T idle = Unit {0}
+Aims T Idle = Unit {0}
 Aims T (W1 i) = Unit {0}
 Aims T (W2 i) = Unit {0}
 Aims T (W3 i) = Unit {0}
@@ -58,31 +59,31 @@ Aims T R4 = Unit {0}
 Aims T R5 = Unit {0}
 Aims T (R6 n) = Unit {0}
 Aims T R7 = Unit {0}
-Aims T writes = Unit {0}
-Aims T reads = Unit {0}
+Aims T Writer = Unit {0}
+Aims T Reader = Unit {0}
 
 -- a row touches its own rank's place alone
 pub row-other : (L : Plan) (s : Lock) (p : ℕ) (f : Place) (q : ℕ) → q ≢ p → row L s p f .place q ≡ s .place q
 unfolding upd
 row-other L s p f q a = grind (arith, tells)
 
-accepts : (L : Plan) (s : Lock) (p : ℕ) (f : Place) → ((q j : ℕ) → L .cap q j ≤ 1000)
-    → InRange (L .tree .top p) (phaseOf f (s .statuses (L .tree .node p (at-level f)))) → Sound L (s .statuses) p f
-    → Within (L .counters) f → Aims (L .tree) f → Busy f → Accepts L s p f
+accepts : (L : Plan) (s : Lock) (p : ℕ) (f : Place) → ((q j : ℕ) → L .hand-over-limit q j ≤ 1000)
+    → InRange (L .tree .own-level p) (phase-of f (s .statuses (L .tree .node p (status-level f))))
+    → Sound L (s .statuses) p f → Within (L .counters) f → Aims (L .tree) f → Busy f → Accepts L s p f
 accepts L s p f c r so w a b = grind (arith, tells)
 
 -- what stands in t is the node of a rank
 link-aims : (T : Tree) → Lawful T → (s : State) → Inv T s → (p i t : ℕ) → s .phases p ≡ link i t → Node T t
 link-aims T G s v p i t e =
     let l : Linking T s p i t = asked T s v p (link i t) e in
-    let o : Occupant T s (T .elem p i) (l .spot .turn) =
-    occupant T G s v (T .elem p i) (l .spot .turn) (l .spot .low) (omega (arith, l .spot .high)) in
-    record { rank = o .rank; lvl = o .lvl; on = o .on; is = l .target ∙ o .is }
+    let o : Occupant T s (T .element p i) (l .spot .turn) =
+    occupant T G s v (T .element p i) (l .spot .turn) (l .spot .low) (omega (arith, l .spot .high)) in
+    record { rank = o .rank; level = o .level; on = o .on; is = l .target ∙ o .is }
 
 give-aims : (T : Tree) → Lawful T → (s : State) → Inv T s → (p h i t : ℕ) → s .phases p ≡ give h i t → Node T t
 give-aims T G s v p h i t e =
     let n : Successor T s p i t = successor T G s v p h i t e in
-    record { rank = n .rank; lvl = i; on = n .on; is = n .target }
+    record { rank = n .rank; level = i; on = n .on; is = n .target }
 
 abbrev Targets : Tree → Phase → Type 0
 Targets T out = Unit {0}
@@ -104,12 +105,12 @@ targets T G s v p (wait i) e = tt
 targets T G s v p (hold h) e = tt
 targets T G s v p (give h i t) e = give-aims T G s v p h i t e
 
-aims : (T : Tree) (f : Place) (w : ℕ) → Targets T (phaseOf f w) → Aims T f
+aims : (T : Tree) (f : Place) (w : ℕ) → Targets T (phase-of f w) → Aims T f
 aims T f w a = grind (arith, tells)
 
 -- the number of a reader's place
 abbrev pub stage-1 : Place → ℕ
-stage-1 idle = 0
+stage-1 Idle = 0
 stage-1 (W1 i) = 0
 stage-1 (W2 i) = 0
 stage-1 (W3 i) = 0
@@ -136,15 +137,15 @@ stage-1 R4 = 3
 stage-1 R5 = 2
 stage-1 (R6 n) = 1
 stage-1 R7 = 1
-stage-1 writes = 0
-stage-1 reads = 2
+stage-1 Writer = 0
+stage-1 Reader = 2
 
-reader-falls : (L : Plan) (s : Lock) (p : ℕ) (f : Place) → 0 < stage-1 f → f ≢ reads
+reader-falls : (L : Plan) (s : Lock) (p : ℕ) (f : Place) → 0 < stage-1 f → f ≢ Reader
     → Busy f × (stage-1 (row L s p f .place p) < stage-1 f)
 unfolding upd
 reader-falls L s p f a b = grind (arith, tells)
 
-reads-or : (f : Place) → (f ≡ reads) ⊎ (f ≢ reads)
+reads-or : (f : Place) → (f ≡ Reader) ⊎ (f ≢ Reader)
 reads-or f = grind (arith, tells)
 
 module _ (P : ℕ) (L : Plan) (g : Apt P L) where
@@ -155,7 +156,7 @@ module _ (P : ℕ) (L : Plan) (g : Apt P L) where
   accept s v p on b =
       let q = v .safe .fine .queues in
       let a : Aims T (s .place p) =
-      aims T (s .place p) (s .statuses (T .node p (at-level (s .place p))))
+      aims T (s .place p) (s .statuses (T .node p (status-level (s .place p))))
       (targets T (g .sensible .tree) (view T s) q p (phase T s p) refl) in (
         on,
         accepts L s p (s .place p) (g .sensible .small) (q .range p) (v .safe .fine .sound p) (v .safe .within p) a b,
@@ -165,29 +166,29 @@ module _ (P : ℕ) (L : Plan) (g : Apt P L) where
   good-step s v p on =
       let e = g .sensible in
       record {
-        bit =
-            bits P L (e .tree) (e .small) (e .cap) (e .ranks) (e .root) (e .homes) s (v .bit) (v .safe) (s .place p);
-        safe = safe-row P L (e .tree) (e .small) (e .cap) (e .ranks) (e .root) (e .homes) s (v .bit) (v .safe) p
-            (g .all p on) (s .place p) refl;
+        bit = bits P L (e .tree) (e .small) (e .threshold-fits) (e .ranks) (e .root) (e .homes) s (v .bit) (v .safe)
+            (s .place p);
+        safe = safe-row P L (e .tree) (e .small) (e .threshold-fits) (e .ranks) (e .root) (e .homes) s (v .bit)
+            (v .safe) p (g .all p on) (s .place p) refl;
       }
 
-  pub good-leave-read : (s : Lock) → Good P L s → (p : ℕ) → On P p → s .place p ≡ reads → Good P L (go s p R7)
+  pub good-leave-read : (s : Lock) → Good P L s → (p : ℕ) → On P p → s .place p ≡ Reader → Good P L (go s p R7)
   good-leave-read s v p on a =
       let e = g .sensible in
       record {
         bit = v .bit;
-        safe = safe-leave-read P L (e .tree) (e .small) (e .cap) (e .ranks) (e .root) (e .homes) s (v .bit) (v .safe)
-            p on a;
+        safe = safe-leave-read P L (e .tree) (e .small) (e .threshold-fits) (e .ranks) (e .root) (e .homes) s (v .bit)
+            (v .safe) p on a;
       }
 
-  pub good-leave-write : (s : Lock) → Good P L s → (p : ℕ) → On P p → s .place p ≡ writes
-      → Good P L (go s p (cond (leb (T .top p) 1) U4 (U1 (T .top p))))
+  pub good-leave-write : (s : Lock) → Good P L s → (p : ℕ) → On P p → s .place p ≡ Writer
+      → Good P L (go s p (cond (leb (T .own-level p) 1) U4 (U1 (T .own-level p))))
   good-leave-write s v p on a =
       let e = g .sensible in
       record {
         bit = v .bit;
-        safe = safe-leave-write P L (e .tree) (e .small) (e .cap) (e .ranks) (e .root) (e .homes) s (v .bit) (v .safe)
-            p a;
+        safe = safe-leave-write P L (e .tree) (e .small) (e .threshold-fits) (e .ranks) (e .root) (e .homes) s
+            (v .bit) (v .safe) p a;
       }
 
   -- the moves at a known place: what the state after it reaches, the state before it reaches
@@ -200,14 +201,14 @@ module _ (P : ℕ) (L : Plan) (g : Apt P L) where
       (λ k. k (good-step s v p on))
       r)
 
-  pub by-leave-read : (Q : Lock → Type 0) (s : Lock) → Good P L s → (p : ℕ) → On P p → s .place p ≡ reads
+  pub by-leave-read : (Q : Lock → Type 0) (s : Lock) → Good P L s → (p : ℕ) → On P p → s .place p ≡ Reader
       → (Good P L (go s p R7) → Reach P L Q (go s p R7)) → Reach P L Q s
   by-leave-read Q s v p on e r = move s (Leave p) (on, subst In (sym e) (omega arith))
       (subst (λ f. Reach P L Q (go s p (exit L p f))) (sym e) (r (good-leave-read s v p on e)))
 
-  pub by-leave-write : (Q : Lock → Type 0) (s : Lock) → Good P L s → (p : ℕ) → On P p → s .place p ≡ writes
-      → (Good P L (go s p (cond (leb (T .top p) 1) U4 (U1 (T .top p))))
-      → Reach P L Q (go s p (cond (leb (T .top p) 1) U4 (U1 (T .top p))))) → Reach P L Q s
+  pub by-leave-write : (Q : Lock → Type 0) (s : Lock) → Good P L s → (p : ℕ) → On P p → s .place p ≡ Writer
+      → (Good P L (go s p (cond (leb (T .own-level p) 1) U4 (U1 (T .own-level p))))
+      → Reach P L Q (go s p (cond (leb (T .own-level p) 1) U4 (U1 (T .own-level p))))) → Reach P L Q s
   by-leave-write Q s v p on e r = move s (Leave p) (on, subst In (sym e) (omega arith))
       (subst (λ f. Reach P L Q (go s p (exit L p f))) (sym e) (r (good-leave-write s v p on e)))
 
@@ -225,7 +226,7 @@ module _ (P : ℕ) (L : Plan) (g : Apt P L) where
       Q : Lock → Type 0
       Q = Lower P L (λ q. stage-1) (Good P L) s
 
-      by : (s .place p ≡ reads) ⊎ (s .place p ≢ reads) → Reach P L Q s
+      by : (s .place p ≡ Reader) ⊎ (s .place p ≢ Reader) → Reach P L Q s
       by (inl e) = by-leave-read Q s v p on e
           (λ w.
           here (go s p R7) (

@@ -4,7 +4,7 @@ use mathlib.Core.Path.{_≡_, refl, sym, _∙_, ap, subst}
 use mathlib.Core.Logic.{_⊎_, inl, inr, _≢_, ⊎-elim}
 use native.Mathlib.Omega.{arith}
 use Rattle.std.proofs.shelf.Tests.{cases-eq, cases-order, cases-lt}
-use Rattle.queues.specs.Machine.{Tree, Lawful, On, Phase, out, fresh, clean, ready, link, wait, hold, give, level}
+use Rattle.queues.specs.Machine.{Tree, Lawful, On, Phase, out, fresh, clean, ready, link, wait, hold, give, hold-level}
 use Rattle.queues.specs.Machine.{InRange, Waits, Calm, State, Inv, Holder, Member, Heads, Behind, Linking, Waiting}
 use Rattle.queues.specs.Machine.{Asks}
 use Rattle.queues.proofs.Base.{range-of, one-owner, apart, asked, Occupant, occupant}
@@ -24,15 +24,15 @@ joined s phases tails at next-turn =
 pub record Joins (T : Tree) (s : State) (p i : ℕ) (phases : ℕ → Phase) (tails : ℕ → ℕ) (at : ℕ → ℕ → ℕ)
     (next-turn : ℕ → ℕ) : Type 0
   where
-    pub after : ((s .tails (T .elem p i) ≡ 0) × (phases p ≡ hold i))
-        ⊎ ((s .tails (T .elem p i) ≢ 0) × (phases p ≡ link i (s .tails (T .elem p i))))
+    pub after : ((s .tails (T .element p i) ≡ 0) × (phases p ≡ hold i))
+        ⊎ ((s .tails (T .element p i) ≢ 0) × (phases p ≡ link i (s .tails (T .element p i))))
     pub others : (q : ℕ) → q ≢ p → phases q ≡ s .phases q
-    pub here : tails (T .elem p i) ≡ T .node p i
-    pub other-tails : (k : ℕ) → k ≢ T .elem p i → tails k ≡ s .tails k
+    pub here : tails (T .element p i) ≡ T .node p i
+    pub other-tails : (k : ℕ) → k ≢ T .element p i → tails k ≡ s .tails k
     pub old : (k a : ℕ) → a < s .next-turn k → at k a ≡ s .node-at k a
-    pub new : at (T .elem p i) (s .next-turn (T .elem p i)) ≡ T .node p i
-    pub more : next-turn (T .elem p i) ≡ suc (s .next-turn (T .elem p i))
-    pub stay : (k : ℕ) → k ≢ T .elem p i → next-turn k ≡ s .next-turn k
+    pub new : at (T .element p i) (s .next-turn (T .element p i)) ≡ T .node p i
+    pub more : next-turn (T .element p i) ≡ suc (s .next-turn (T .element p i))
+    pub stay : (k : ℕ) → k ≢ T .element p i → next-turn k ≡ s .next-turn k
 
 module _ (T : Tree) (G : Lawful T) (s : State) (v : Inv T s) (p i : ℕ) (e : s .phases p ≡ ready i) (phases : ℕ → Phase)
     (tails : ℕ → ℕ) (at : ℕ → ℕ → ℕ) (next-turn : ℕ → ℕ) (c : Joins T s p i phases tails at next-turn) where
@@ -40,13 +40,13 @@ module _ (T : Tree) (G : Lawful T) (s : State) (v : Inv T s) (p i : ℕ) (e : s 
   s′ = joined s phases tails at next-turn
 
   abbrev K : ℕ
-  K = T .elem p i
+  K = T .element p i
 
-  on-p : On (T .top p) i
-  on-p = range-of (s .phases p) (T .top p) (v .range p) (ready i) e
+  on-p : On (T .own-level p) i
+  on-p = range-of (s .phases p) (T .own-level p) (v .range p) (ready i) e
 
-  level-p : level (T .top p) (s .phases p) ≡ suc i
-  level-p = ap (level (T .top p)) e
+  level-p : hold-level (T .own-level p) (s .phases p) ≡ suc i
+  level-p = ap (hold-level (T .own-level p)) e
 
   not-waits : (j : ℕ) → Waits (s .phases p) j → ⊥
   not-waits j w = subst (λ f. Waits f j) e w
@@ -56,7 +56,7 @@ module _ (T : Tree) (G : Lawful T) (s : State) (v : Inv T s) (p i : ℕ) (e : s 
   tail-set k l z =
       let a = pred (s .next-turn k) in
       let o : Occupant T s k a = occupant T G s v k a (omega arith) (omega arith) in
-      G .no-zero (o .rank) (o .lvl) (o .on) (sym (o .is) ∙ (sym (v .tail k a (omega arith) (omega arith)) ∙ z))
+      G .no-zero (o .rank) (o .level) (o .on) (sym (o .is) ∙ (sym (v .tail k a (omega arith) (omega arith)) ∙ z))
 
   bare : s .tails K ≡ 0 → s .head-turn K ≡ s .next-turn K
   bare z = ⊎-elim
@@ -119,11 +119,11 @@ module _ (T : Tree) (G : Lawful T) (s : State) (v : Inv T s) (p i : ℕ) (e : s 
   grown : (q j : ℕ) → Heads T s q j → Heads T s′ q j
   grown q j o =
       record {
-        some = omega (arith, hi-more (T .elem q j), o .some);
-        is = c .old (T .elem q j) (s .head-turn (T .elem q j)) (o .some) ∙ o .is;
+        some = omega (arith, hi-more (T .element q j), o .some);
+        is = c .old (T .element q j) (s .head-turn (T .element q j)) (o .some) ∙ o .is;
       }
 
-  heads-p : (j : ℕ) → On (T .top p) j → level (T .top p) (phases p) ≤ j → Heads T s′ p j
+  heads-p : (j : ℕ) → On (T .own-level p) j → hold-level (T .own-level p) (phases p) ≤ j → Heads T s′ p j
   heads-p j on l = by (c .after) (cases-eq j i)
     where
       by : ((s .tails K ≡ 0) × (phases p ≡ hold i)) ⊎ ((s .tails K ≢ 0) × (phases p ≡ link i (s .tails K)))
@@ -135,22 +135,22 @@ module _ (T : Tree) (G : Lawful T) (s : State) (v : Inv T s) (p i : ℕ) (e : s 
             is = new-at K (s .head-turn K) refl (bare (x .0));
           })
       by (inl x) (inr z) =
-          let w : level (T .top p) (phases p) ≡ i = ap (level (T .top p)) (x .1) in
+          let w : hold-level (T .own-level p) (phases p) ≡ i = ap (hold-level (T .own-level p)) (x .1) in
           grown p j (v .heads p j on (omega (arith, level-p)))
       by (inr x) _ =
-          let w : level (T .top p) (phases p) ≡ suc i = ap (level (T .top p)) (x .1) in
+          let w : hold-level (T .own-level p) (phases p) ≡ suc i = ap (hold-level (T .own-level p)) (x .1) in
           grown p j (v .heads p j on (omega (arith, level-p)))
 
-  levels′ : (q : ℕ) → level (T .top q) (phases q) ≤ level (T .top q) (s .phases q)
+  levels′ : (q : ℕ) → hold-level (T .own-level q) (phases q) ≤ hold-level (T .own-level q) (s .phases q)
   levels′ = split p
-      (λ q. level (T .top q) (phases q) ≤ level (T .top q) (s .phases q))
+      (λ q. hold-level (T .own-level q) (phases q) ≤ hold-level (T .own-level q) (s .phases q))
       (by (c .after))
-      (λ q a. omega (arith, ap (level (T .top q)) (c .others q a)))
+      (λ q a. omega (arith, ap (hold-level (T .own-level q)) (c .others q a)))
     where
       by : ((s .tails K ≡ 0) × (phases p ≡ hold i)) ⊎ ((s .tails K ≢ 0) × (phases p ≡ link i (s .tails K)))
-          → level (T .top p) (phases p) ≤ level (T .top p) (s .phases p)
-      by (inl x) = omega (arith, level-p, ap (level (T .top p)) (x .1))
-      by (inr x) = omega (arith, level-p, ap (level (T .top p)) (x .1))
+          → hold-level (T .own-level p) (phases p) ≤ hold-level (T .own-level p) (s .phases p)
+      by (inl x) = omega (arith, level-p, ap (hold-level (T .own-level p)) (x .1))
+      by (inr x) = omega (arith, level-p, ap (hold-level (T .own-level p)) (x .1))
 
   holder′ : (k : ℕ) → s .head-turn k < next-turn k → Holder T s′ k
   holder′ k l = by (turns k (s .head-turn k) l) (c .after)
@@ -162,7 +162,7 @@ module _ (T : Tree) (G : Lawful T) (s : State) (v : Inv T s) (p i : ℕ) (e : s 
           let o = v .holder k x in
           record {
             rank = o .rank;
-            lvl = o .lvl;
+            level = o .level;
             on = o .on;
             queue = o .queue;
             is = c .old k (s .head-turn k) x ∙ o .is;
@@ -171,11 +171,11 @@ module _ (T : Tree) (G : Lawful T) (s : State) (v : Inv T s) (p i : ℕ) (e : s 
       by (inr x) (inl y) =
           record {
             rank = p;
-            lvl = i;
+            level = i;
             on = on-p;
             queue = sym (x .0);
             is = new-at k (s .head-turn k) (x .0) (x .1);
-            holds = omega (arith, ap (level (T .top p)) (y .1));
+            holds = omega (arith, ap (hold-level (T .own-level p)) (y .1));
           }
       by (inr x) (inr y) = let f : s .head-turn k < s .next-turn k = rw (x .0) (full (y .0)) in absurd (omega arith)
 
@@ -189,13 +189,13 @@ module _ (T : Tree) (G : Lawful T) (s : State) (v : Inv T s) (p i : ℕ) (e : s 
           let m = v .member k a l x in
           record {
             rank = m .rank;
-            lvl = m .lvl;
+            level = m .level;
             on = m .on;
             queue = m .queue;
             is = c .old k (suc a) x ∙ m .is;
             waits = split p
-                (λ q. Waits (s .phases q) (m .lvl) → Waits (phases q) (m .lvl))
-                (λ w. absurd (not-waits (m .lvl) w))
+                (λ q. Waits (s .phases q) (m .level) → Waits (phases q) (m .level))
+                (λ w. absurd (not-waits (m .level) w))
                 (λ q y w. rw (c .others q y) w)
                 (m .rank)
                 (m .waits);
@@ -204,7 +204,7 @@ module _ (T : Tree) (G : Lawful T) (s : State) (v : Inv T s) (p i : ℕ) (e : s 
       by (inr x) (inr y) =
           record {
             rank = p;
-            lvl = i;
+            level = i;
             on = on-p;
             queue = sym (x .0);
             is = new-at k (suc a) (x .0) (x .1);
@@ -216,8 +216,8 @@ module _ (T : Tree) (G : Lawful T) (s : State) (v : Inv T s) (p i : ℕ) (e : s 
       record {
         turn = b .turn;
         low = b .low;
-        high = omega (arith, b .high, hi-more (T .elem q j));
-        is = c .old (T .elem q j) (suc (b .turn)) (b .high) ∙ b .is;
+        high = omega (arith, b .high, hi-more (T .element q j));
+        is = c .old (T .element q j) (suc (b .turn)) (b .high) ∙ b .is;
       }
 
   asks-o : (q : ℕ) → (f : Phase) → Asks T s q f → Asks T s′ q f
@@ -227,10 +227,10 @@ module _ (T : Tree) (G : Lawful T) (s : State) (v : Inv T s) (p i : ℕ) (e : s 
   asks-o q (clean j) o = o
   asks-o q (ready j) o = o
   asks-o q (link j u) o =
-      let z = c .old (T .elem q j) (o .spot .turn) (omega (arith, o .spot .high)) in
+      let z = c .old (T .element q j) (o .spot .turn) (omega (arith, o .spot .high)) in
       record { spot = behind q j (o .spot); target = o .target ∙ sym z; none = ap (s .nexts) z ∙ o .none }
   asks-o q (wait j) o =
-      let z = c .old (T .elem q j) (o .spot .turn) (omega (arith, o .spot .high)) in
+      let z = c .old (T .element q j) (o .spot .turn) (omega (arith, o .spot .high)) in
       record { spot = behind q j (o .spot); linked = ap (s .nexts) z ∙ o .linked }
   asks-o q (hold j) o = tt
   asks-o q (give h j u) o = o
@@ -256,18 +256,18 @@ module _ (T : Tree) (G : Lawful T) (s : State) (v : Inv T s) (p i : ℕ) (e : s 
             none = ap (s .nexts) z ∙ v .ends K a (omega arith) (omega arith);
           })
 
-  range-p : InRange (T .top p) (phases p)
+  range-p : InRange (T .own-level p) (phases p)
   range-p = by (c .after)
     where
       by : ((s .tails K ≡ 0) × (phases p ≡ hold i)) ⊎ ((s .tails K ≢ 0) × (phases p ≡ link i (s .tails K)))
-          → InRange (T .top p) (phases p)
+          → InRange (T .own-level p) (phases p)
       by (inl x) = rw (x .1) on-p
       by (inr x) = rw (x .1) on-p
 
   pub joined-up : Inv T s′
   joined-up =
       record {
-        range = split p (λ q. InRange (T .top q) (phases q)) range-p (λ q a. rw (c .others q a) (v .range q));
+        range = split p (λ q. InRange (T .own-level q) (phases q)) range-p (λ q a. rw (c .others q a) (v .range q));
         order = λ k. omega (arith, v .order k, hi-more k);
         once = once′;
         empty = split K
@@ -277,9 +277,10 @@ module _ (T : Tree) (G : Lawful T) (s : State) (v : Inv T s) (p i : ℕ) (e : s 
         tail = tail′;
         ends = ends′;
         heads = split p
-            (λ q. (j : ℕ) → On (T .top q) j → level (T .top q) (phases q) ≤ j → Heads T s′ q j)
+            (λ q. (j : ℕ) → On (T .own-level q) j → hold-level (T .own-level q) (phases q) ≤ j → Heads T s′ q j)
             heads-p
-            (λ q a j on l. grown q j (v .heads q j on (omega (arith, ap (level (T .top q)) (c .others q a)))));
+            (λ q a j on l.
+            grown q j (v .heads q j on (omega (arith, ap (hold-level (T .own-level q)) (c .others q a)))));
         holder = holder′;
         member = member′;
         asks = split p

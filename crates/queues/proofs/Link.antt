@@ -4,7 +4,7 @@ use mathlib.Core.Path.{_≡_, refl, sym, _∙_, ap, subst}
 use mathlib.Core.Logic.{_⊎_, inl, inr, _≢_, ⊎-elim}
 use native.Mathlib.Omega.{arith}
 use Rattle.std.proofs.shelf.Tests.{cases-eq}
-use Rattle.queues.specs.Machine.{Tree, Lawful, On, Phase, out, fresh, clean, ready, link, wait, hold, give, level}
+use Rattle.queues.specs.Machine.{Tree, Lawful, On, Phase, out, fresh, clean, ready, link, wait, hold, give, hold-level}
 use Rattle.queues.specs.Machine.{InRange, Waits, Calm, State, Inv, Holder, Member, Heads, Behind, Linking, Waiting}
 use Rattle.queues.specs.Machine.{Asks}
 use Rattle.queues.proofs.Base.{range-of, one-owner, apart, asked, one-turn}
@@ -22,67 +22,69 @@ module _ (T : Tree) (G : Lawful T) (s : State) (v : Inv T s) (p i t : ℕ) (e : 
   abbrev s′ : State
   s′ = prepared s phases nexts
 
-  on-p : On (T .top p) i
-  on-p = range-of (s .phases p) (T .top p) (v .range p) (link i t) e
+  on-p : On (T .own-level p) i
+  on-p = range-of (s .phases p) (T .own-level p) (v .range p) (link i t) e
 
   was : Linking T s p i t
   was = asked T s v p (link i t) e
 
-  levels′ : (q : ℕ) → level (T .top q) (phases q) ≡ level (T .top q) (s .phases q)
+  levels′ : (q : ℕ) → hold-level (T .own-level q) (phases q) ≡ hold-level (T .own-level q) (s .phases q)
   levels′ = split p
-      (λ q. level (T .top q) (phases q) ≡ level (T .top q) (s .phases q))
-      (ap (level (T .top p)) (c .after) ∙ sym (ap (level (T .top p)) e))
-      (λ q a. ap (level (T .top q)) (c .others q a))
+      (λ q. hold-level (T .own-level q) (phases q) ≡ hold-level (T .own-level q) (s .phases q))
+      (ap (hold-level (T .own-level p)) (c .after) ∙ sym (ap (hold-level (T .own-level p)) e))
+      (λ q a. ap (hold-level (T .own-level q)) (c .others q a))
 
   -- of the queued nodes, only the one before p's is written
-  queued : (k a : ℕ) → s .head-turn k ≤ a → a < s .next-turn k → ((T .elem p i ≡ k) × (was .spot .turn ≡ a) → ⊥)
+  queued : (k a : ℕ) → s .head-turn k ≤ a → a < s .next-turn k → ((T .element p i ≡ k) × (was .spot .turn ≡ a) → ⊥)
       → nexts (s .node-at k a) ≡ s .nexts (s .node-at k a)
   queued k a l l′ d = c .words (s .node-at k a)
       (λ z.
       d
-      (one-turn T G s v (T .elem p i) k (was .spot .turn) a (was .spot .low) (omega (arith, was .spot .high))
+      (one-turn T G s v (T .element p i) k (was .spot .turn) a (was .spot .low) (omega (arith, was .spot .high))
       l l′ (sym (was .target) ∙ sym z)))
 
   -- it is not the end of its queue
-  inner : (k a : ℕ) → suc a ≡ s .next-turn k → (T .elem p i ≡ k) × (was .spot .turn ≡ a) → ⊥
+  inner : (k a : ℕ) → suc a ≡ s .next-turn k → (T .element p i ≡ k) × (was .spot .turn ≡ a) → ⊥
   inner k a z d = let h : suc (was .spot .turn) < s .next-turn k = rw (d .0) at (was .spot .high) in omega arith
 
   -- nor the one before another rank's
-  other : (q j : ℕ) → q ≢ p → On (T .top q) j → level (T .top q) (s .phases q) ≡ suc j → (b : Behind T s q j)
-      → (T .elem p i ≡ T .elem q j) × (was .spot .turn ≡ b .turn) → ⊥
+  other : (q j : ℕ) → q ≢ p → On (T .own-level q) j → hold-level (T .own-level q) (s .phases q) ≡ suc j
+      → (b : Behind T s q j) → (T .element p i ≡ T .element q j) × (was .spot .turn ≡ b .turn) → ⊥
   other q j a on l b d = a
-      (one-owner T G s v q p j i on on-p (omega arith) (omega (arith, ap (level (T .top p)) e))
+      (one-owner T G s v q p j i on on-p (omega arith) (omega (arith, ap (hold-level (T .own-level p)) e))
       (sym (b .is) ∙ (rw (← (d .0), ← (d .1)) (was .spot .is))) .0)
 
   behind : (q j : ℕ) → Behind T s q j → Behind T s′ q j
   behind q j b = record { turn = b .turn; low = b .low; high = b .high; is = b .is }
 
   -- a node that is not queued is not written
-  unqueued : (q j : ℕ) → On (T .top q) j → level (T .top q) (s .phases q) ≡ suc j → (Waits (s .phases q) j → ⊥)
-      → nexts (T .node q j) ≡ s .nexts (T .node q j)
+  unqueued : (q j : ℕ) → On (T .own-level q) j → hold-level (T .own-level q) (s .phases q) ≡ suc j
+      → (Waits (s .phases q) j → ⊥) → nexts (T .node q j) ≡ s .nexts (T .node q j)
   unqueued q j on l w = c .words (T .node q j)
       (λ z.
-      apart T G s v q j on l w (T .elem p i) (was .spot .turn) (was .spot .low) (omega (arith, was .spot .high))
+      apart T G s v q j on l w (T .element p i) (was .spot .turn) (was .spot .low) (omega (arith, was .spot .high))
       (sym (was .target) ∙ sym z))
 
-  asks-o : (q : ℕ) → q ≢ p → (f : Phase) → s .phases q ≡ f → InRange (T .top q) f → Asks T s q f → Asks T s′ q f
+  asks-o : (q : ℕ) → q ≢ p → (f : Phase) → s .phases q ≡ f → InRange (T .own-level q) f → Asks T s q f → Asks T s′ q f
   unfolding behind
   asks-o q a out w g o = tt
   asks-o q a (fresh j) w g o = tt
-  asks-o q a (clean j) w g o = unqueued q j g (ap (level (T .top q)) w) (λ x. subst (λ f. Waits f j) w x) ∙ o
-  asks-o q a (ready j) w g o = unqueued q j g (ap (level (T .top q)) w) (λ x. subst (λ f. Waits f j) w x) ∙ o
+  asks-o q a (clean j) w g o =
+      unqueued q j g (ap (hold-level (T .own-level q)) w) (λ x. subst (λ f. Waits f j) w x) ∙ o
+  asks-o q a (ready j) w g o =
+      unqueued q j g (ap (hold-level (T .own-level q)) w) (λ x. subst (λ f. Waits f j) w x) ∙ o
   asks-o q a (link j u) w g o =
       record {
         spot = behind q j (o .spot);
         target = o .target;
-        none = queued (T .elem q j) (o .spot .turn) (o .spot .low) (omega (arith, o .spot .high))
-            (other q j a g (ap (level (T .top q)) w) (o .spot)) ∙ o .none;
+        none = queued (T .element q j) (o .spot .turn) (o .spot .low) (omega (arith, o .spot .high))
+            (other q j a g (ap (hold-level (T .own-level q)) w) (o .spot)) ∙ o .none;
       }
   asks-o q a (wait j) w g o =
       record {
         spot = behind q j (o .spot);
-        linked = queued (T .elem q j) (o .spot .turn) (o .spot .low) (omega (arith, o .spot .high))
-            (other q j a g (ap (level (T .top q)) w) (o .spot)) ∙ o .linked;
+        linked = queued (T .element q j) (o .spot .turn) (o .spot .low) (omega (arith, o .spot .high))
+            (other q j a g (ap (hold-level (T .own-level q)) w) (o .spot)) ∙ o .linked;
       }
   asks-o q a (hold j) w g o = tt
   asks-o q a (give h j u) w g o =
@@ -95,8 +97,10 @@ module _ (T : Tree) (G : Lawful T) (s : State) (v : Inv T s) (p i t : ℕ) (e : 
   pub linked-up : Inv T s′
   linked-up =
       record {
-        range =
-            split p (λ q. InRange (T .top q) (phases q)) (rw (c .after) on-p) (λ q a. rw (c .others q a) (v .range q));
+        range = split p
+            (λ q. InRange (T .own-level q) (phases q))
+            (rw (c .after) on-p)
+            (λ q a. rw (c .others q a) (v .range q));
         order = v .order;
         once = v .once;
         empty = v .empty;
@@ -108,7 +112,7 @@ module _ (T : Tree) (G : Lawful T) (s : State) (v : Inv T s) (p i t : ℕ) (e : 
             let o = v .holder k l in
             record {
               rank = o .rank;
-              lvl = o .lvl;
+              level = o .level;
               on = o .on;
               queue = o .queue;
               is = o .is;
@@ -118,13 +122,13 @@ module _ (T : Tree) (G : Lawful T) (s : State) (v : Inv T s) (p i t : ℕ) (e : 
             let m = v .member k a l l′ in
             record {
               rank = m .rank;
-              lvl = m .lvl;
+              level = m .level;
               on = m .on;
               queue = m .queue;
               is = m .is;
               waits = split p
-                  (λ q. Waits (s .phases q) (m .lvl) → Waits (phases q) (m .lvl))
-                  (λ w. rw (c .after) (subst (λ f. Waits f (m .lvl)) e w))
+                  (λ q. Waits (s .phases q) (m .level) → Waits (phases q) (m .level))
+                  (λ w. rw (c .after) (subst (λ f. Waits f (m .level)) e w))
                   (λ q x w. rw (c .others q x) w)
                   (m .rank)
                   (m .waits);

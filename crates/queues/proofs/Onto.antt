@@ -8,7 +8,7 @@ use lib.Dec.{leb}
 use native.Mathlib.Omega.{arith}
 use Rattle.std.proofs.shelf.Ways.{tells}
 use Rattle.queues.specs.Machine.{On}
-use Rattle.queues.specs.Rows.{Place, writes, reads, R7, U1, U4, Plan, Lock, go}
+use Rattle.queues.specs.Rows.{Place, Writer, Reader, R7, U1, U4, Plan, Lock, go}
 use Rattle.queues.specs.Whole.{Safe}
 use Rattle.queues.specs.Claim.{Jobs, stepped, left-write, left-read}
 use Rattle.queues.specs.Way.{Move, Step, Leave, In, exit, Accepted, act, play, Plays, AtRest, Apt}
@@ -16,7 +16,7 @@ use Rattle.queues.proofs.Reach.{Reach, here, move, as-list}
 use Rattle.queues.proofs.Home.{Good, good-step, good-leave-read, good-leave-write}
 use Rattle.queues.proofs.Rest.{back}
 
-in-is : (f : Place) → In f → (f ≡ writes) ⊎ (f ≡ reads)
+in-is : (f : Place) → In f → (f ≡ Writer) ⊎ (f ≡ Reader)
 in-is f h = grind (arith, tells)
 
 -- the calls of a list on a machine, and that each is accepted
@@ -33,9 +33,9 @@ module _ (P : ℕ) (L : Plan) (g : Apt P L) where
   pub good-act : (s : Lock) → Good P L s → (m : Move) → Accepted P L s m → Good P L (act L s m)
   good-act s v (Step p) a = good-step P L g s v p (a .0)
   good-act s v (Leave p) a = ⊎-elim
-      (λ (e : s .place p ≡ writes).
+      (λ (e : s .place p ≡ Writer).
       subst (λ f. Good P L (go s p (exit L p f))) (sym e) (good-leave-write P L g s v p (a .0) e))
-      (λ (e : s .place p ≡ reads).
+      (λ (e : s .place p ≡ Reader).
       subst (λ f. Good P L (go s p (exit L p f))) (sym e) (good-leave-read P L g s v p (a .0) e))
       (in-is (s .place p) (a .1))
 
@@ -43,8 +43,8 @@ module _ (P : ℕ) (L : Plan) (g : Apt P L) where
   pub job-act : (s : Lock) → Jobs P L s → (m : Move) → Accepted P L s m → Jobs P L (act L s m)
   job-act s j (Step p) a = stepped s p (g .all p (a .0)) j
   job-act s j (Leave p) a = ⊎-elim
-      (λ (e : s .place p ≡ writes). subst (λ f. Jobs P L (go s p (exit L p f))) (sym e) (left-write s p e j))
-      (λ (e : s .place p ≡ reads). subst (λ f. Jobs P L (go s p (exit L p f))) (sym e) (left-read s p (a .0) e j))
+      (λ (e : s .place p ≡ Writer). subst (λ f. Jobs P L (go s p (exit L p f))) (sym e) (left-write s p e j))
+      (λ (e : s .place p ≡ Reader). subst (λ f. Jobs P L (go s p (exit L p f))) (sym e) (left-read s p (a .0) e j))
       (in-is (s .place p) (a .1))
 
   pub job-play : (ms : List Move) (s : Lock) → Jobs P L s → Plays P L s ms → Jobs P L (play L s ms)

@@ -5,7 +5,7 @@ use Prim.Native.Nat.{ℕ, suc, _≤_, _<_}
 use mathlib.Core.Path.{_≡_, refl, sym, _∙_, ap, subst}
 use mathlib.Core.Logic.{_⊎_, inl, inr, _≢_, ⊎-elim}
 use native.Mathlib.Omega.{arith}
-use Rattle.queues.specs.Machine.{Tree, Lawful, On, Phase, out, fresh, clean, ready, link, wait, hold, give, level}
+use Rattle.queues.specs.Machine.{Tree, Lawful, On, Phase, out, fresh, clean, ready, link, wait, hold, give, hold-level}
 use Rattle.queues.specs.Machine.{InRange, Waits, Calm, State, Inv, Holder, Member, Heads, Behind, Linking, Waiting}
 use Rattle.queues.specs.Machine.{Asks}
 use Rattle.queues.proofs.Base.{range-of, one-owner, apart}
@@ -24,14 +24,14 @@ prepared s phases nexts =
 
 -- the node that p is preparing
 pub record Mine (T : Tree) (s : State) (p y : ℕ) : Type 0 where
-  pub lvl : ℕ
-  pub on : On (T .top p) lvl
-  pub near : level (T .top p) (s .phases p) ≡ suc lvl
-  pub is : y ≡ T .node p lvl
+  pub level : ℕ
+  pub on : On (T .own-level p) level
+  pub near : hold-level (T .own-level p) (s .phases p) ≡ suc level
+  pub is : y ≡ T .node p level
 
 pub record Prepares (T : Tree) (s : State) (p : ℕ) (phases : ℕ → Phase) (nexts : ℕ → ℕ) : Type 0 where
-  pub levels : level (T .top p) (phases p) ≡ level (T .top p) (s .phases p)
-  pub in-range : InRange (T .top p) (phases p)
+  pub levels : hold-level (T .own-level p) (phases p) ≡ hold-level (T .own-level p) (s .phases p)
+  pub in-range : InRange (T .own-level p) (phases p)
   pub idle : (j : ℕ) → Waits (s .phases p) j → ⊥
   pub others : (q : ℕ) → q ≢ p → phases q ≡ s .phases q
   pub words : (y : ℕ) → (nexts y ≡ s .nexts y) ⊎ Mine T s p y
@@ -42,57 +42,58 @@ module _ (T : Tree) (G : Lawful T) (s : State) (v : Inv T s) (p : ℕ) (phases :
   abbrev s′ : State
   s′ = prepared s phases nexts
 
-  levels′ : (q : ℕ) → level (T .top q) (phases q) ≡ level (T .top q) (s .phases q)
+  levels′ : (q : ℕ) → hold-level (T .own-level q) (phases q) ≡ hold-level (T .own-level q) (s .phases q)
   levels′ = split p
-      (λ q. level (T .top q) (phases q) ≡ level (T .top q) (s .phases q))
+      (λ q. hold-level (T .own-level q) (phases q) ≡ hold-level (T .own-level q) (s .phases q))
       (c .levels)
-      (λ q a. ap (level (T .top q)) (c .others q a))
+      (λ q a. ap (hold-level (T .own-level q)) (c .others q a))
 
   -- no queued node is written
   queued : (k a : ℕ) → s .head-turn k ≤ a → a < s .next-turn k → nexts (s .node-at k a) ≡ s .nexts (s .node-at k a)
   queued k a l l′ = ⊎-elim
       (λ (z : nexts (s .node-at k a) ≡ s .nexts (s .node-at k a)). z)
       (λ (m : Mine T s p (s .node-at k a)).
-      absurd (apart T G s v p (m .lvl) (m .on) (m .near) (c .idle (m .lvl)) k a l l′ (m .is)))
+      absurd (apart T G s v p (m .level) (m .on) (m .near) (c .idle (m .level)) k a l l′ (m .is)))
       (c .words (s .node-at k a))
 
   -- no node of another rank is written
-  foreign : (q j : ℕ) → q ≢ p → On (T .top q) j → level (T .top q) (s .phases q) ≤ suc j
+  foreign : (q j : ℕ) → q ≢ p → On (T .own-level q) j → hold-level (T .own-level q) (s .phases q) ≤ suc j
       → nexts (T .node q j) ≡ s .nexts (T .node q j)
   foreign q j ne on l = ⊎-elim
       (λ (z : nexts (T .node q j) ≡ s .nexts (T .node q j)). z)
       (λ (m : Mine T s p (T .node q j)).
-      absurd (ne (one-owner T G s v q p j (m .lvl) on (m .on) l (omega (arith, m .near)) (m .is) .0)))
+      absurd (ne (one-owner T G s v q p j (m .level) on (m .on) l (omega (arith, m .near)) (m .is) .0)))
       (c .words (T .node q j))
 
   behind : (q j : ℕ) → Behind T s q j → Behind T s′ q j
   behind q j b = record { turn = b .turn; low = b .low; high = b .high; is = b .is }
 
-  asks-o : (q : ℕ) → q ≢ p → (f : Phase) → s .phases q ≡ f → InRange (T .top q) f → Asks T s q f → Asks T s′ q f
+  asks-o : (q : ℕ) → q ≢ p → (f : Phase) → s .phases q ≡ f → InRange (T .own-level q) f → Asks T s q f → Asks T s′ q f
   unfolding behind
   asks-o q a out w g o = tt
   asks-o q a (fresh j) w g o = tt
-  asks-o q a (clean j) w g o = foreign q j a g (omega (arith, ap (level (T .top q)) w)) ∙ o
-  asks-o q a (ready j) w g o = foreign q j a g (omega (arith, ap (level (T .top q)) w)) ∙ o
+  asks-o q a (clean j) w g o = foreign q j a g (omega (arith, ap (hold-level (T .own-level q)) w)) ∙ o
+  asks-o q a (ready j) w g o = foreign q j a g (omega (arith, ap (hold-level (T .own-level q)) w)) ∙ o
   asks-o q a (link j u) w g o =
       record {
         spot = behind q j (o .spot);
         target = o .target;
-        none = queued (T .elem q j) (o .spot .turn) (o .spot .low) (omega (arith, o .spot .high)) ∙ o .none;
+        none = queued (T .element q j) (o .spot .turn) (o .spot .low) (omega (arith, o .spot .high)) ∙ o .none;
       }
   asks-o q a (wait j) w g o =
       record {
         spot = behind q j (o .spot);
-        linked = queued (T .elem q j) (o .spot .turn) (o .spot .low) (omega (arith, o .spot .high)) ∙ o .linked;
+        linked = queued (T .element q j) (o .spot .turn) (o .spot .low) (omega (arith, o .spot .high)) ∙ o .linked;
       }
   asks-o q a (hold j) w g o = tt
   asks-o q a (give h j u) w g o =
-      (o .0 ∙ sym (foreign q j a (omega arith) (omega (arith, ap (level (T .top q)) w))), o .1)
+      (o .0 ∙ sym (foreign q j a (omega arith) (omega (arith, ap (hold-level (T .own-level q)) w))), o .1)
 
   pub kept-by : Inv T s′
   kept-by =
       record {
-        range = split p (λ q. InRange (T .top q) (phases q)) (c .in-range) (λ q a. rw (c .others q a) (v .range q));
+        range =
+            split p (λ q. InRange (T .own-level q) (phases q)) (c .in-range) (λ q a. rw (c .others q a) (v .range q));
         order = v .order;
         once = v .once;
         empty = v .empty;
@@ -104,7 +105,7 @@ module _ (T : Tree) (G : Lawful T) (s : State) (v : Inv T s) (p : ℕ) (phases :
             let o = v .holder k l in
             record {
               rank = o .rank;
-              lvl = o .lvl;
+              level = o .level;
               on = o .on;
               queue = o .queue;
               is = o .is;
@@ -114,13 +115,13 @@ module _ (T : Tree) (G : Lawful T) (s : State) (v : Inv T s) (p : ℕ) (phases :
             let m = v .member k a l l′ in
             record {
               rank = m .rank;
-              lvl = m .lvl;
+              level = m .level;
               on = m .on;
               queue = m .queue;
               is = m .is;
               waits = split p
-                  (λ q. Waits (s .phases q) (m .lvl) → Waits (phases q) (m .lvl))
-                  (λ w. absurd (c .idle (m .lvl) w))
+                  (λ q. Waits (s .phases q) (m .level) → Waits (phases q) (m .level))
+                  (λ w. absurd (c .idle (m .level) w))
                   (λ q x w. rw (c .others q x) w)
                   (m .rank)
                   (m .waits);

@@ -8,13 +8,12 @@ use lib.Dec.{eqb, leb, ltb}
 use native.Mathlib.Omega.{arith}
 use Rattle.std.proofs.shelf.Tests.{cases-eq, cases-lt, eq-eqb, lt-ltb, le-ltb, lt-leb}
 use Rattle.std.proofs.shelf.Ways.{tells}
-use Rattle.queues.specs.Machine.{Tree, Lawful, On, Phase, out, level, InRange, State, Inv, Holder}
-use Rattle.queues.specs.Counters.{total, tries, clears, Marks, shut, none}
-use Rattle.queues.specs.Counters
-use Rattle.queues.specs.Rows.{Place, idle, W1, W2, W3, W4, W5, W6, W7, W8, W9, U1, U2, U3, U4, U5, U6, U7, U8, U9}
-use Rattle.queues.specs.Rows.{U10, R1, R2, R3, R4, R5, R6, R7, writes, reads, Plan, Lock, upd, phaseOf, at-level}
+use Rattle.queues.specs.Machine.{Tree, Lawful, On, Phase, out, hold-level, InRange, State, Inv, Holder}
+use Rattle.queues.specs.Counters.{total, tries, admits, clears, Marks, shut, none}
+use Rattle.queues.specs.Rows.{Place, Idle, W1, W2, W3, W4, W5, W6, W7, W8, W9, U1, U2, U3, U4, U5, U6, U7, U8, U9}
+use Rattle.queues.specs.Rows.{U10, R1, R2, R3, R4, R5, R6, R7, Writer, Reader, Plan, Lock, upd, phase-of, status-level}
 use Rattle.queues.specs.Rows.{phase, view, go, put-arrive, put-depart, row}
-use Rattle.queues.specs.Whole.{loadOf, gate, Within, Safe}
+use Rattle.queues.specs.Whole.{load-of, gate, Within, Safe}
 use Rattle.queues.specs.Claim.{Jobs}
 use Rattle.queues.specs.Way.{tag, Move, Plays, play, AtRest, Apt, WayBack}
 use Rattle.queues.proofs.Sum.{total-same, total-zero}
@@ -27,12 +26,12 @@ use Rattle.queues.proofs.Home.{Good, stage-1, row-other, by-step, by-leave-rea
 use Rattle.queues.proofs.Writers.{number, Quiet, stage-2, stage-two}
 
 abbrev Still : Place → Type 0
-Still f = (f ≡ idle) ⊎ (f ≡ R3)
+Still f = (f ≡ Idle) ⊎ (f ≡ R3)
 
 still-place : (N C : ℕ) (f : Place) → Within C f → stage-1 f ≡ 0 → number N C f ≡ 0 → Still f
 still-place N C f w a b = grind (arith, tells)
 
-still-none : (c : ℕ) (f : Place) → Still f → loadOf c f ≡ none
+still-none : (c : ℕ) (f : Place) → Still f → load-of c f ≡ none
 still-none c f h = grind (arith, tells)
 
 -- the number of a reader that waits
@@ -42,14 +41,14 @@ stage-3 f = cond (eqb (tag f) 22) 1 0
 waits-R3 : (f : Place) → 0 < stage-3 f → f ≡ R3
 waits-R3 f h = grind (arith, tells)
 
-still-idle : (f : Place) → Still f → stage-3 f ≡ 0 → f ≡ idle
+still-idle : (f : Place) → Still f → stage-3 f ≡ 0 → f ≡ Idle
 still-idle f h z = grind (arith, tells)
 
 -- what is true where every rank is idle or at R3
 pub record Calm (L : Plan) (s : Lock) : Type 0 where
   pub tails : (k : ℕ) → s .tails k ≡ 0
   pub counts : (c : ℕ) → c < L .counters → s .arrives c ≡ s .departs c
-  pub small : (c : ℕ) → c < L .counters → s .departs c ≤ L .TR
+  pub small : (c : ℕ) → c < L .counters → s .departs c ≤ L .reader-threshold
 
 module _ (P : ℕ) (L : Plan) (g : Apt P L) where
   abbrev T : Tree
@@ -58,18 +57,19 @@ module _ (P : ℕ) (L : Plan) (g : Apt P L) where
   abbrev pub Resting : Lock → Type 0
   Resting s = Good P L s × ((q : ℕ) → On P q → Still (s .place q))
 
-  still-phase : (s : Lock) → Resting s → (q : ℕ) → On (T .top q) 1 → level (T .top q) (phase T s q) ≡ suc (T .top q)
+  still-phase : (s : Lock) → Resting s → (q : ℕ) → On (T .own-level q) 1
+      → hold-level (T .own-level q) (phase T s q) ≡ suc (T .own-level q)
   still-phase s v q o = ⊎-elim
-      (λ (e : s .place q ≡ idle). ap (level (T .top q)) (phase-at T s q idle e))
-      (λ (e : s .place q ≡ R3). ap (level (T .top q)) (phase-at T s q R3 e))
+      (λ (e : s .place q ≡ Idle). ap (hold-level (T .own-level q)) (phase-at T s q Idle e))
+      (λ (e : s .place q ≡ R3). ap (hold-level (T .own-level q)) (phase-at T s q R3 e))
       (v .1 q (g .sensible .ranks q o))
 
   still-gate : (s : Lock) → Resting s → (q c : ℕ) → Marks (gate T s q) c → ⊥
   still-gate s v q c m = ⊎-elim
       (λ (z : gate T s q ≡ shut). subst (λ x. Marks x c) z m)
-      (λ (z : (level (T .top q) (phase T s q) ≡ 1) × On (T .top q) 1).
+      (λ (z : (hold-level (T .own-level q) (phase T s q) ≡ 1) × On (T .own-level q) 1).
       absurd (omega (arith, still-phase s v q (z .1))))
-      (gate-phase (T .top q) (s .place q) (s .statuses (T .node q (at-level (s .place q))))
+      (gate-phase (T .own-level q) (s .place q) (s .statuses (T .node q (status-level (s .place q))))
       (v .0 .safe .fine .queues .range q))
 
   pub calm : (s : Lock) → Resting s → Calm L s
@@ -90,25 +90,25 @@ module _ (P : ℕ) (L : Plan) (g : Apt P L) where
       inv : Inv T (view T s)
       inv = v .0 .safe .fine .queues
 
-      sums : (c : ℕ) → c < L .counters → (s .arrives c ≡ s .departs c) × (s .departs c ≤ L .TR)
+      sums : (c : ℕ) → c < L .counters → (s .arrives c ≡ s .departs c) × (s .departs c ≤ L .reader-threshold)
       sums c l =
           let o = v .0 .safe .counted .each c l in
-          let n : (q : ℕ) → On P q → loadOf (L .home q) (s .place q) ≡ none =
+          let n : (q : ℕ) → On P q → load-of (L .home q) (s .place q) ≡ none =
           λ q on. still-none (L .home q) (s .place q) (v .1 q on) in
-          let x : total P (λ q. tries (loadOf (L .home q) (s .place q)) c) ≡ 0 =
+          let x : total P (λ q. tries (load-of (L .home q) (s .place q)) c) ≡ 0 =
           total-same P
           (λ q. 0)
-          (λ q. tries (loadOf (L .home q) (s .place q)) c)
+          (λ q. tries (load-of (L .home q) (s .place q)) c)
           (λ q a b. ap (λ y. tries y c) (n q (record { from = a; upto = b }))) ∙ total-zero P in
-          let y : total P (λ q. Counters.reads (loadOf (L .home q) (s .place q)) c) ≡ 0 =
+          let y : total P (λ q. admits (load-of (L .home q) (s .place q)) c) ≡ 0 =
           total-same P
           (λ q. 0)
-          (λ q. Counters.reads (loadOf (L .home q) (s .place q)) c)
-          (λ q a b. ap (λ y. Counters.reads y c) (n q (record { from = a; upto = b }))) ∙ total-zero P in
-          let z : total P (λ q. clears (loadOf (L .home q) (s .place q)) c) ≡ 0 =
+          (λ q. admits (load-of (L .home q) (s .place q)) c)
+          (λ q a b. ap (λ y. admits y c) (n q (record { from = a; upto = b }))) ∙ total-zero P in
+          let z : total P (λ q. clears (load-of (L .home q) (s .place q)) c) ≡ 0 =
           total-same P
           (λ q. 0)
-          (λ q. clears (loadOf (L .home q) (s .place q)) c)
+          (λ q. clears (load-of (L .home q) (s .place q)) c)
           (λ q a b. ap (λ y. clears y c) (n q (record { from = a; upto = b }))) ∙ total-zero P in
           let b : v .0 .bit c ≢ 1 = λ w. still-gate s v (o .stands w .0) c (o .stands w .1) in
           (omega (arith, o .sum, o .bits), omega (arith, o .small))
@@ -117,13 +117,13 @@ module _ (P : ℕ) (L : Plan) (g : Apt P L) where
   pub record Home (s : Lock) (p : ℕ) (t : Lock) : Type 0 where
     pub good : Good P L t
     pub others : (q : ℕ) → q ≢ p → t .place q ≡ s .place q
-    pub now : t .place p ≡ idle
+    pub now : t .place p ≡ Idle
 
   -- R3, R1, in, R7
   in-and-out : (s₀ s : Lock) → Good P L s → (p : ℕ) → On P p → ((q : ℕ) → q ≢ p → s .place q ≡ s₀ .place q)
-      → s .place p ≡ R3 → s .arrives (L .home p) < L .TR → Reach P L (Home s₀ p) s
+      → s .place p ≡ R3 → s .arrives (L .home p) < L .reader-threshold → Reach P L (Home s₀ p) s
   in-and-out s₀ s v p on h e l =
-      by-step P L g (Home s₀ p) s v p on R3 e (omega arith) (rw (lt-ltb (s .arrives c) (L .TR) l) second)
+      by-step P L g (Home s₀ p) s v p on R3 e (omega arith) (rw (lt-ltb (s .arrives c) (L .reader-threshold) l) second)
     where
       c : ℕ
       c = L .home p
@@ -132,7 +132,7 @@ module _ (P : ℕ) (L : Plan) (g : Apt P L) where
       s₁ = go s p R1
 
       s₂ : Lock
-      s₂ = go (put-arrive s₁ c (suc (s .arrives c))) p reads
+      s₂ = go (put-arrive s₁ c (suc (s .arrives c))) p Reader
 
       s₃ : Lock
       s₃ = go s₂ p R7
@@ -146,25 +146,25 @@ module _ (P : ℕ) (L : Plan) (g : Apt P L) where
           here s₄ (record {
             good = x;
             others = λ q a.
-                upd-other (s₃ .place) p idle q a
+                upd-other (s₃ .place) p Idle q a
                 ∙ (upd-other (s₂ .place) p R7 q a
-                ∙ (upd-other (s₁ .place) p reads q a ∙ (upd-other (s .place) p R1 q a ∙ h q a)));
-            now = upd-same (s₃ .place) p idle;
+                ∙ (upd-other (s₁ .place) p Reader q a ∙ (upd-other (s .place) p R1 q a ∙ h q a)));
+            now = upd-same (s₃ .place) p Idle;
           }))
 
       third : Good P L s₂ → Reach P L (Home s₀ p) s₂
-      third w = by-leave-read P L g (Home s₀ p) s₂ w p on (upd-same (s₁ .place) p reads) fourth
+      third w = by-leave-read P L g (Home s₀ p) s₂ w p on (upd-same (s₁ .place) p Reader) fourth
 
       second : Good P L s₁ → Reach P L (Home s₀ p) s₁
       second w = by-step P L g (Home s₀ p) s₁ w p on R1 (upd-same (s .place) p R1) (omega arith)
-          (rw (lt-ltb (s .arrives c) (L .TR) l) third)
+          (rw (lt-ltb (s .arrives c) (L .reader-threshold) l) third)
 
   -- R3, R4, R5, R6, and then as above
-  clear-first : (s : Lock) → Resting s → (p : ℕ) → On P p → s .place p ≡ R3 → L .TR ≤ s .arrives (L .home p)
-      → Reach P L (Home s p) s
+  clear-first : (s : Lock) → Resting s → (p : ℕ) → On P p → s .place p ≡ R3
+      → L .reader-threshold ≤ s .arrives (L .home p) → Reach P L (Home s p) s
   clear-first s v p on e l = by-step P L g (Home s p) s (v .0) p on R3 e (omega arith)
       (rw (
-        le-ltb (s .arrives c) (L .TR) l,
+        le-ltb (s .arrives c) (L .reader-threshold) l,
         lt-leb (2 ^ 62) (s .arrives c) (omega (arith, all .counts c hc, all .small c hc, g .less)),
       )
       second)
@@ -210,15 +210,15 @@ module _ (P : ℕ) (L : Plan) (g : Apt P L) where
 
       second : Good P L s₁ → Reach P L (Home s p) s₁
       second w = by-step P L g (Home s p) s₁ w p on R4 (upd-same (s .place) p R4) (omega arith)
-          (rw (eq-eqb (s .tails (T .elem p 1)) 0 (all .tails (T .elem p 1))) third)
+          (rw (eq-eqb (s .tails (T .element p 1)) 0 (all .tails (T .element p 1))) third)
 
   one-home : (s : Lock) → Resting s → (p : ℕ) → On P p → 0 < stage-3 (s .place p)
       → Reach P L (Lower P L (λ q. stage-3) Resting s) s
   one-home s v p on h = onwards P L (Home s p) (Lower P L (λ q. stage-3) Resting s) home s
       (⊎-elim
-      (λ (z : s .arrives (L .home p) < L .TR). in-and-out s s (v .0) p on (λ q a. refl) e z)
-      (λ (z : L .TR ≤ s .arrives (L .home p)). clear-first s v p on e z)
-      (cases-lt (s .arrives (L .home p)) (L .TR)))
+      (λ (z : s .arrives (L .home p) < L .reader-threshold). in-and-out s s (v .0) p on (λ q a. refl) e z)
+      (λ (z : L .reader-threshold ≤ s .arrives (L .home p)). clear-first s v p on e z)
+      (cases-lt (s .arrives (L .home p)) (L .reader-threshold)))
     where
       e : s .place p ≡ R3
       e = waits-R3 (s .place p) h
@@ -241,7 +241,7 @@ module _ (P : ℕ) (L : Plan) (g : Apt P L) where
   stage-three s v = descend P L (λ q. stage-3) Resting one-home (Sum P L (λ q. stage-3) Resting s) s v (omega arith)
 
   -- all idle: nothing is left in the words
-  pub rests : (s : Lock) → Good P L s → ((q : ℕ) → On P q → s .place q ≡ idle) → AtRest P L s
+  pub rests : (s : Lock) → Good P L s → ((q : ℕ) → On P q → s .place q ≡ Idle) → AtRest P L s
   rests s v h = let c = calm s (v, λ q on. inl (h q on)) in record { idles = h; tails = c .tails; counts = c .counts }
 
   pub back : (s : Lock) → Good P L s → Reach P L (AtRest P L) s
@@ -263,7 +263,7 @@ module _ (P : ℕ) (L : Plan) (g : Apt P L) where
           (stage-three u (
             x .0 .0,
             λ q on.
-                still-place (T .top q) (L .counters) (u .place q) (x .0 .0 .safe .within q)
+                still-place (T .own-level q) (L .counters) (u .place q) (x .0 .0 .safe .within q)
                 (x .0 .1 q on) (x .1 q on),
           )))
           t

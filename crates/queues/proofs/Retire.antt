@@ -4,7 +4,7 @@ use mathlib.Core.Path.{_≡_, refl, sym, _∙_, ap, subst}
 use mathlib.Core.Logic.{_⊎_, inl, inr, _≢_, ⊎-elim}
 use native.Mathlib.Omega.{arith}
 use Rattle.std.proofs.shelf.Tests.{cases-eq, cases-order}
-use Rattle.queues.specs.Machine.{Tree, Lawful, On, Phase, out, fresh, clean, ready, link, wait, hold, give, level}
+use Rattle.queues.specs.Machine.{Tree, Lawful, On, Phase, out, fresh, clean, ready, link, wait, hold, give, hold-level}
 use Rattle.queues.specs.Machine.{InRange, Waits, Calm, State, Inv, Holder, Member, Heads, Behind, Linking, Waiting}
 use Rattle.queues.specs.Machine.{Asks}
 use Rattle.queues.proofs.Base.{range-of, one-holder, one-owner, waits-level, waits-on}
@@ -22,37 +22,37 @@ freed s phases tails head-turn =
     }
 
 pub record Frees (T : Tree) (s : State) (p i : ℕ) (phases : ℕ → Phase) (tails head-turn : ℕ → ℕ) : Type 0 where
-  pub giver : level (T .top p) (phases p) ≡ suc i
+  pub giver : hold-level (T .own-level p) (phases p) ≡ suc i
   pub calm : Calm (phases p)
-  pub in-range : InRange (T .top p) (phases p)
+  pub in-range : InRange (T .own-level p) (phases p)
   pub others : (q : ℕ) → q ≢ p → phases q ≡ s .phases q
-  pub tail-zero : tails (T .elem p i) ≡ 0
-  pub other-tails : (k : ℕ) → k ≢ T .elem p i → tails k ≡ s .tails k
-  pub head-gone : head-turn (T .elem p i) ≡ suc (s .head-turn (T .elem p i))
-  pub stay : (k : ℕ) → k ≢ T .elem p i → head-turn k ≡ s .head-turn k
+  pub tail-zero : tails (T .element p i) ≡ 0
+  pub other-tails : (k : ℕ) → k ≢ T .element p i → tails k ≡ s .tails k
+  pub head-gone : head-turn (T .element p i) ≡ suc (s .head-turn (T .element p i))
+  pub stay : (k : ℕ) → k ≢ T .element p i → head-turn k ≡ s .head-turn k
 
 module _ (T : Tree) (G : Lawful T) (s : State) (v : Inv T s) (p i : ℕ) (e : s .phases p ≡ hold i)
-    (was : s .tails (T .elem p i) ≡ T .node p i) (phases : ℕ → Phase) (tails head-turn : ℕ → ℕ)
+    (was : s .tails (T .element p i) ≡ T .node p i) (phases : ℕ → Phase) (tails head-turn : ℕ → ℕ)
     (c : Frees T s p i phases tails head-turn) where
   abbrev s′ : State
   s′ = freed s phases tails head-turn
 
-  on-p : On (T .top p) i
-  on-p = range-of (s .phases p) (T .top p) (v .range p) (hold i) e
+  on-p : On (T .own-level p) i
+  on-p = range-of (s .phases p) (T .own-level p) (v .range p) (hold i) e
 
-  level-p : level (T .top p) (s .phases p) ≡ i
-  level-p = ap (level (T .top p)) e
+  level-p : hold-level (T .own-level p) (s .phases p) ≡ i
+  level-p = ap (hold-level (T .own-level p)) e
 
-  level-o : (q : ℕ) → q ≢ p → level (T .top q) (phases q) ≡ level (T .top q) (s .phases q)
-  level-o q a = ap (level (T .top q)) (c .others q a)
+  level-o : (q : ℕ) → q ≢ p → hold-level (T .own-level q) (phases q) ≡ hold-level (T .own-level q) (s .phases q)
+  level-o q a = ap (hold-level (T .own-level q)) (c .others q a)
 
   head-p : Heads T s p i
   head-p = v .heads p i on-p (omega (arith, level-p))
 
   -- the queue has one node
-  single : suc (s .head-turn (T .elem p i)) ≡ s .next-turn (T .elem p i)
+  single : suc (s .head-turn (T .element p i)) ≡ s .next-turn (T .element p i)
   single =
-      let k = T .elem p i in
+      let k = T .element p i in
       let a = pred (s .next-turn k) in
       let h : s .head-turn k < s .next-turn k = head-p .some in
       let q : a ≡ s .head-turn k =
@@ -60,62 +60,67 @@ module _ (T : Tree) (G : Lawful T) (s : State) (v : Inv T s) (p i : ℕ) (e : s 
       (sym (v .tail k a (omega arith) (omega arith)) ∙ (was ∙ sym (head-p .is))) in
       omega arith
 
-  now-empty : head-turn (T .elem p i) ≡ s .next-turn (T .elem p i)
+  now-empty : head-turn (T .element p i) ≡ s .next-turn (T .element p i)
   now-empty = c .head-gone ∙ single
 
   order′ : (k : ℕ) → head-turn k ≤ s .next-turn k
-  order′ = split (T .elem p i)
+  order′ = split (T .element p i)
       (λ k. head-turn k ≤ s .next-turn k)
       (omega (arith, now-empty))
       (λ k ne. omega (arith, c .stay k ne, v .order k))
 
   head-grows : (k : ℕ) → s .head-turn k ≤ head-turn k
-  head-grows = split (T .elem p i)
+  head-grows = split (T .element p i)
       (λ k. s .head-turn k ≤ head-turn k)
       (omega (arith, c .head-gone))
       (λ k ne. omega (arith, c .stay k ne))
 
   tail′ : (k a : ℕ) → head-turn k ≤ a → suc a ≡ s .next-turn k → tails k ≡ s .node-at k a
-  tail′ = split (T .elem p i)
+  tail′ = split (T .element p i)
       (λ k. (a : ℕ) → head-turn k ≤ a → suc a ≡ s .next-turn k → tails k ≡ s .node-at k a)
       (λ a l z. absurd (omega (arith, now-empty)))
       (λ k ne a l z. rw (c .other-tails k ne) (v .tail k a (omega (arith, head-grows k)) z))
 
   empty′ : (k : ℕ) → head-turn k ≡ s .next-turn k → tails k ≡ 0
-  empty′ = split (T .elem p i)
+  empty′ = split (T .element p i)
       (λ k. head-turn k ≡ s .next-turn k → tails k ≡ 0)
       (λ _. c .tail-zero)
       (λ k ne z. c .other-tails k ne ∙ v .empty k (omega (arith, c .stay k ne)))
 
-  kept : (q j : ℕ) → T .elem q j ≢ T .elem p i → Heads T s q j → Heads T s′ q j
+  kept : (q j : ℕ) → T .element q j ≢ T .element p i → Heads T s q j → Heads T s′ q j
   kept q j ne o =
-      record { some = omega (arith, c .stay (T .elem q j) ne, o .some); is = rw (c .stay (T .elem q j) ne) (o .is) }
+      record {
+        some = omega (arith, c .stay (T .element q j) ne, o .some);
+        is = rw (c .stay (T .element q j) ne) (o .is);
+      }
 
-  heads-p : (j : ℕ) → On (T .top p) j → level (T .top p) (phases p) ≤ j → Heads T s′ p j
+  heads-p : (j : ℕ) → On (T .own-level p) j → hold-level (T .own-level p) (phases p) ≤ j → Heads T s′ p j
   heads-p j on l = kept p j
       (λ z. let w : j ≡ i = G .level-of p p j i on on-p z in omega (arith, c .giver))
       (v .heads p j on (omega (arith, c .giver, level-p)))
 
-  heads-o : (q : ℕ) → q ≢ p → (j : ℕ) → On (T .top q) j → level (T .top q) (phases q) ≤ j → Heads T s′ q j
+  heads-o : (q : ℕ) → q ≢ p → (j : ℕ) → On (T .own-level q) j → hold-level (T .own-level q) (phases q) ≤ j
+      → Heads T s′ q j
   heads-o q a j on l =
-      let l′ : level (T .top q) (s .phases q) ≤ j = omega (arith, level-o q a) in
+      let l′ : hold-level (T .own-level q) (s .phases q) ≤ j = omega (arith, level-o q a) in
       kept q j
       (λ w.
       let z : j ≡ i = G .level-of q p j i on on-p w in
       a
       (one-holder T G s v q p j on (omega (arith, on-p)) l′ (omega (arith, level-p))
-      (w ∙ ap (T .elem p) (sym z))))
+      (w ∙ ap (T .element p) (sym z))))
       (v .heads q j on l′)
 
   behind : (q j : ℕ) → Behind T s q j → Behind T s′ q j
   behind q j b =
-      record { turn = b .turn; low = low (cases-eq (T .elem q j) (T .elem p i)); high = b .high; is = b .is }
+      record { turn = b .turn; low = low (cases-eq (T .element q j) (T .element p i)); high = b .high; is = b .is }
     where
-      low : (T .elem q j ≡ T .elem p i) ⊎ (T .elem q j ≡ T .elem p i → ⊥) → head-turn (T .elem q j) ≤ b .turn
+      low : (T .element q j ≡ T .element p i) ⊎ (T .element q j ≡ T .element p i → ⊥)
+          → head-turn (T .element q j) ≤ b .turn
       low (inl z) =
-          let l : s .head-turn (T .elem p i) ≤ b .turn = rw z at (b .low) in
-          let m : suc (b .turn) < s .next-turn (T .elem p i) = rw z at (b .high) in absurd (omega (arith, single))
-      low (inr z) = rw (c .stay (T .elem q j) z) (b .low)
+          let l : s .head-turn (T .element p i) ≤ b .turn = rw z at (b .low) in
+          let m : suc (b .turn) < s .next-turn (T .element p i) = rw z at (b .high) in absurd (omega (arith, single))
+      low (inr z) = rw (c .stay (T .element q j) z) (b .low)
 
   asks-o : (q : ℕ) → (f : Phase) → Asks T s q f → Asks T s′ q f
   unfolding behind
@@ -128,39 +133,39 @@ module _ (T : Tree) (G : Lawful T) (s : State) (v : Inv T s) (p i : ℕ) (e : s 
   asks-o q (hold j) o = tt
   asks-o q (give g j u) o = o
 
-  holder-o : (k : ℕ) → k ≢ T .elem p i → Holder T s k → Holder T s′ k
+  holder-o : (k : ℕ) → k ≢ T .element p i → Holder T s k → Holder T s′ k
   holder-o k ne o = split p
       (λ q.
-      (j : ℕ) → On (T .top q) j → T .elem q j ≡ k → s .node-at k (s .head-turn k) ≡ T .node q j
-      → level (T .top q) (s .phases q) ≤ j → Holder T s′ k)
+      (j : ℕ) → On (T .own-level q) j → T .element q j ≡ k → s .node-at k (s .head-turn k) ≡ T .node q j
+      → hold-level (T .own-level q) (s .phases q) ≤ j → Holder T s′ k)
       from-p
       from-o
       (o .rank)
-      (o .lvl)
+      (o .level)
       (o .on)
       (o .queue)
       (o .is)
       (o .holds)
     where
-      from-p : (j : ℕ) → On (T .top p) j → T .elem p j ≡ k → s .node-at k (s .head-turn k) ≡ T .node p j
-          → level (T .top p) (s .phases p) ≤ j → Holder T s′ k
+      from-p : (j : ℕ) → On (T .own-level p) j → T .element p j ≡ k → s .node-at k (s .head-turn k) ≡ T .node p j
+          → hold-level (T .own-level p) (s .phases p) ≤ j → Holder T s′ k
       from-p j on q is l =
-          let d : j ≢ i = λ z. ne (sym q ∙ ap (T .elem p) z) in
+          let d : j ≢ i = λ z. ne (sym q ∙ ap (T .element p) z) in
           record {
             rank = p;
-            lvl = j;
+            level = j;
             on = on;
             queue = q;
             is = rw (c .stay k ne) is;
             holds = omega (arith, c .giver, level-p);
           }
 
-      from-o : (x : ℕ) → x ≢ p → (j : ℕ) → On (T .top x) j → T .elem x j ≡ k
-          → s .node-at k (s .head-turn k) ≡ T .node x j → level (T .top x) (s .phases x) ≤ j → Holder T s′ k
+      from-o : (x : ℕ) → x ≢ p → (j : ℕ) → On (T .own-level x) j → T .element x j ≡ k
+          → s .node-at k (s .head-turn k) ≡ T .node x j → hold-level (T .own-level x) (s .phases x) ≤ j → Holder T s′ k
       from-o x a j on q is l =
           record {
             rank = x;
-            lvl = j;
+            level = j;
             on = on;
             queue = q;
             is = rw (c .stay k ne) is;
@@ -171,13 +176,13 @@ module _ (T : Tree) (G : Lawful T) (s : State) (v : Inv T s) (p i : ℕ) (e : s 
   member-of k a m =
       record {
         rank = m .rank;
-        lvl = m .lvl;
+        level = m .level;
         on = m .on;
         queue = m .queue;
         is = m .is;
         waits = split p
-            (λ q. q ≡ m .rank → Waits (phases q) (m .lvl))
-            (λ z. absurd (subst (λ f. Waits f (m .lvl)) (ap (s .phases) (sym z) ∙ e) (m .waits)))
+            (λ q. q ≡ m .rank → Waits (phases q) (m .level))
+            (λ z. absurd (subst (λ f. Waits f (m .level)) (ap (s .phases) (sym z) ∙ e) (m .waits)))
             (λ q x z. rw (c .others q x, z) (m .waits))
             (m .rank)
             refl;
@@ -186,17 +191,18 @@ module _ (T : Tree) (G : Lawful T) (s : State) (v : Inv T s) (p i : ℕ) (e : s 
   pub retired : Inv T s′
   retired =
       record {
-        range = split p (λ q. InRange (T .top q) (phases q)) (c .in-range) (λ q a. rw (c .others q a) (v .range q));
+        range =
+            split p (λ q. InRange (T .own-level q) (phases q)) (c .in-range) (λ q a. rw (c .others q a) (v .range q));
         order = order′;
         once = λ k a b l l′ m m′ q. v .once k a b (omega (arith, head-grows k)) l′ (omega (arith, head-grows k)) m′ q;
         empty = empty′;
         tail = tail′;
         ends = λ k a l z. v .ends k a (omega (arith, head-grows k)) z;
         heads = split p
-            (λ q. (j : ℕ) → On (T .top q) j → level (T .top q) (phases q) ≤ j → Heads T s′ q j)
+            (λ q. (j : ℕ) → On (T .own-level q) j → hold-level (T .own-level q) (phases q) ≤ j → Heads T s′ q j)
             heads-p
             heads-o;
-        holder = split (T .elem p i)
+        holder = split (T .element p i)
             (λ k. head-turn k < s .next-turn k → Holder T s′ k)
             (λ z. absurd (omega (arith, now-empty)))
             (λ k ne l. holder-o k ne (v .holder k (omega (arith, c .stay k ne))));

@@ -7,11 +7,13 @@ use lib.Dec.{eqb, leb, ltb}
 use native.Mathlib.Omega.{arith}
 use Rattle.std.proofs.shelf.Tests.{cases-eq, cases-order, cases-bool, cond-both, eq-eqb, ne-eqb, eqb-true, eqb-false}
 use Rattle.std.proofs.shelf.Tests.{leb-true, leb-false, ltb-true}
-use Rattle.queues.specs.Machine.{Tree, Lawful, On, Phase, out, fresh, clean, ready, link, wait, hold, give, level}
+use Rattle.queues.specs.Machine.{Tree, Lawful, On, Phase, out, fresh, clean, ready, link, wait, hold, give, hold-level}
 use Rattle.queues.specs.Machine.{InRange, Waits, Calm, Asks, State, Inv}
-use Rattle.queues.specs.Rows.{Place, idle, W1, W2, W3, W4, W5, W6, W7, W8, W9, U1, U2, U3, U4, U5, U6, U7, U8, U9}
-use Rattle.queues.specs.Rows.{U10, R1, R2, R3, R4, R5, R6, R7, writes, reads, WAIT, tell, Plan, Lock, upd, phaseOf}
-use Rattle.queues.specs.Rows.{at-level, phase, view, Counts, Sound, Fine, go, put-next, put-status, join, drop, free}
+use Rattle.queues.specs.Rows.{Place, Idle, W1, W2, W3, W4, W5, W6, W7, W8, W9, U1, U2, U3, U4, U5, U6, U7, U8, U9}
+use Rattle.queues.specs.Rows.{U10, R1, R2, R3, R4, R5, R6, R7, Writer, Reader, WAIT, told-status, Plan, Lock, upd}
+use Rattle.queues.specs.Rows.{phase-of}
+use Rattle.queues.specs.Rows.{status-level, phase, view, Counts, Sound, Fine, go, put-next, put-status, join, drop}
+use Rattle.queues.specs.Rows.{free}
 use Rattle.queues.specs.Rows.{done}
 use Rattle.queues.specs.Rows.{next, row, step}
 use Rattle.queues.specs.Claim.{fresh-lock}
@@ -22,20 +24,21 @@ use Rattle.queues.proofs.Link.{Links, linked-up}
 use Rattle.queues.proofs.Join.{Joins, joined, joined-up}
 use Rattle.queues.proofs.Hand.{Passes, passed, handed}
 use Rattle.queues.proofs.Retire.{Frees, freed, retired}
-use Rattle.queues.proofs.View.{upd-same, upd-other, phase-same, w5-wait, w5-count, w5-told, tell-big, w5-level}
+use Rattle.queues.proofs.View.{upd-same, upd-other, phase-same, w5-wait, w5-count, w5-told, told-large, w5-level}
 use Rattle.queues.proofs.View.{sound-same}
 
 -- the phase of a rank whose place is known
 pub phase-at : (T : Tree) (s : Lock) (p : ℕ) (f : Place) → s .place p ≡ f
-    → phase T s p ≡ phaseOf f (s .statuses (T .node p (at-level f)))
-phase-at T s p f e = ap (λ g. phaseOf g (s .statuses (T .node p (at-level g)))) e
+    → phase T s p ≡ phase-of f (s .statuses (T .node p (status-level f)))
+phase-at T s p f e = ap (λ g. phase-of g (s .statuses (T .node p (status-level g)))) e
 
 pub phase-now : (T : Tree) (s : Lock) (p : ℕ) (f : Place)
-    → phase T (go s p f) p ≡ phaseOf f (s .statuses (T .node p (at-level f)))
+    → phase T (go s p f) p ≡ phase-of f (s .statuses (T .node p (status-level f)))
 phase-now T s p f = phase-at T (go s p f) p f (upd-same (s .place) p f)
 
 pub phase-other : (T : Tree) (s : Lock) (p : ℕ) (f : Place) (q : ℕ) → q ≢ p → phase T (go s p f) q ≡ phase T s q
-phase-other T s p f q a = ap (λ g. phaseOf g (s .statuses (T .node q (at-level g)))) (upd-other (s .place) p f q a)
+phase-other T s p f q a =
+    ap (λ g. phase-of g (s .statuses (T .node q (status-level g)))) (upd-other (s .place) p f q a)
 
 -- only W5 waits
 w5-waits : (i j : ℕ) (a b : Bool) → cond a (wait j) (cond b (hold 1) (hold j)) ≡ wait i → W5 j ≡ W5 i
@@ -43,9 +46,9 @@ w5-waits i j true b e = cc
 w5-waits i j false true e = cc
 w5-waits i j false false e = cc
 
-pub only-W5 : (f : Place) (w i : ℕ) → phaseOf f w ≡ wait i → f ≡ W5 i
+pub only-W5 : (f : Place) (w i : ℕ) → phase-of f w ≡ wait i → f ≡ W5 i
 only-W5 (W5 j) w i e = w5-waits i j (eqb w WAIT) (leb w 1000) e
-only-W5 idle w i e = cc
+only-W5 Idle w i e = cc
 only-W5 (W1 j) w i e = cc
 only-W5 (W2 j) w i e = cc
 only-W5 (W3 j) w i e = cc
@@ -71,21 +74,22 @@ only-W5 R4 w i e = cc
 only-W5 R5 w i e = cc
 only-W5 (R6 n) w i e = cc
 only-W5 R7 w i e = cc
-only-W5 writes w i e = cc
-only-W5 reads w i e = cc
+only-W5 Writer w i e = cc
+only-W5 Reader w i e = cc
 
 -- where a rank stands when a level is done
 pub done-ok : (top i : ℕ) → On top i → (b : Bool) → eqb i top ≡ b → (w : ℕ)
-    → (level top (phaseOf (cond b idle (U8 (suc i))) w) ≡ suc i) × Calm (phaseOf (cond b idle (U8 (suc i))) w)
-    × InRange top (phaseOf (cond b idle (U8 (suc i))) w)
+    → (hold-level top (phase-of (cond b Idle (U8 (suc i))) w) ≡ suc i) × Calm (phase-of (cond b Idle (U8 (suc i))) w)
+    × InRange top (phase-of (cond b Idle (U8 (suc i))) w)
 done-ok top i on true e w = (omega (arith, eqb-true i top e), tt, tt)
 done-ok top i on false e w = let ne : i ≢ top = eqb-false i top e in (refl, tt, omega arith)
 
-pub done-sound : (L : Plan) (statuses : ℕ → ℕ) (p i : ℕ) (b : Bool) → Sound L statuses p (cond b idle (U8 (suc i)))
+pub done-sound : (L : Plan) (statuses : ℕ → ℕ) (p i : ℕ) (b : Bool) → Sound L statuses p (cond b Idle (U8 (suc i)))
 done-sound L statuses p i true = tt
 done-sound L statuses p i false = tt
 
-module _ (L : Plan) (G : Lawful (L .tree)) (small : (q j : ℕ) → L .cap q j ≤ 1000) (s : Lock) (v : Fine L s) where
+module _ (L : Plan) (G : Lawful (L .tree)) (small : (q j : ℕ) → L .hand-over-limit q j ≤ 1000) (s : Lock)
+    (v : Fine L s) where
   abbrev T : Tree
   T = L .tree
 
@@ -93,27 +97,27 @@ module _ (L : Plan) (G : Lawful (L .tree)) (small : (q j : ℕ) → L .cap q j �
   inv = v .queues
 
   -- a STATUS written at the node of one rank is no other's
-  pub status-other : (o i u : ℕ) → On (T .top o) i → level (T .top o) (phase T s o) ≤ suc i → (q j : ℕ) → q ≢ o
-      → On (T .top q) j → level (T .top q) (phase T s q) ≤ suc j
+  pub status-other : (o i u : ℕ) → On (T .own-level o) i → hold-level (T .own-level o) (phase T s o) ≤ suc i
+      → (q j : ℕ) → q ≢ o → On (T .own-level q) j → hold-level (T .own-level q) (phase T s q) ≤ suc j
       → upd (s .statuses) (T .node o i) u (T .node q j) ≡ s .statuses (T .node q j)
   status-other o i u on l q j a on′ l′ = upd-other (s .statuses) (T .node o i) u (T .node q j)
       (λ z. a (one-owner T G (view T s) inv q o j i on′ on l′ l z .0))
 
   -- so it changes no other's phase
-  phase-status : (o i u : ℕ) → On (T .top o) i → level (T .top o) (phase T s o) ≤ suc i → (q : ℕ) → q ≢ o
-      → phase T (put-status s (T .node o i) u) q ≡ phase T s q
-  phase-status o i u on l q a = phase-same (s .place q) (s .statuses (T .node q (at-level (s .place q))))
-      (upd (s .statuses) (T .node o i) u (T .node q (at-level (s .place q))))
+  phase-status : (o i u : ℕ) → On (T .own-level o) i → hold-level (T .own-level o) (phase T s o) ≤ suc i → (q : ℕ)
+      → q ≢ o → phase T (put-status s (T .node o i) u) q ≡ phase T s q
+  phase-status o i u on l q a = phase-same (s .place q) (s .statuses (T .node q (status-level (s .place q))))
+      (upd (s .statuses) (T .node o i) u (T .node q (status-level (s .place q))))
       (λ j e.
       subst
-      (λ f. upd (s .statuses) (T .node o i) u (T .node q (at-level f)) ≡ s .statuses (T .node q (at-level f)))
+      (λ f. upd (s .statuses) (T .node o i) u (T .node q (status-level f)) ≡ s .statuses (T .node q (status-level f)))
       (sym e)
       (status-other o i u on l q j a (subst (Sound L (s .statuses) q) e (v .sound q) .0)
-      (rw (phase-at T s q (W5 j) e) (w5-level (T .top q) j (s .statuses (T .node q j))))))
+      (rw (phase-at T s q (W5 j) e) (w5-level (T .own-level q) j (s .statuses (T .node q j))))))
 
   -- and nothing that another's place says
-  sound-status : (o i u : ℕ) → On (T .top o) i → level (T .top o) (phase T s o) ≤ suc i → (q : ℕ) → q ≢ o
-      → Sound L (upd (s .statuses) (T .node o i) u) q (s .place q)
+  sound-status : (o i u : ℕ) → On (T .own-level o) i → hold-level (T .own-level o) (phase T s o) ≤ suc i → (q : ℕ)
+      → q ≢ o → Sound L (upd (s .statuses) (T .node o i) u) q (s .place q)
   sound-status o i u on l q a = sound-same L small (s .statuses) (upd (s .statuses) (T .node o i) u) q (s .place q)
       (λ j on′ l′. status-other o i u on l q j a on′ l′)
       (v .sound q)
@@ -131,7 +135,7 @@ module _ (L : Plan) (G : Lawful (L .tree)) (small : (q j : ℕ) → L .cap q j �
   fine-W1 p i e =
       let was : phase T s p ≡ fresh i = phase-at T s p (W1 i) e in
       let now : phase T (go s p (W2 i)) p ≡ clean i = phase-now T s p (W2 i) in
-      let on : On (T .top p) i = range-of (phase T s p) (T .top p) (inv .range p) (fresh i) was in
+      let on : On (T .own-level p) i = range-of (phase T s p) (T .own-level p) (inv .range p) (fresh i) was in
       record {
         queues = kept-by T G (view T s) inv p (phase T (go s p (W2 i))) (upd (s .nexts) (T .node p i) 0) (record {
           levels = rw (now, was);
@@ -140,7 +144,7 @@ module _ (L : Plan) (G : Lawful (L .tree)) (small : (q j : ℕ) → L .cap q j �
           others = phase-other T s p (W2 i);
           words = λ y.
               ⊎-elim
-              (λ (z : y ≡ T .node p i). inr (record { lvl = i; on = on; near = rw was refl; is = z }))
+              (λ (z : y ≡ T .node p i). inr (record { level = i; on = on; near = rw was refl; is = z }))
               (λ (z : y ≡ T .node p i → ⊥). inl (upd-other (s .nexts) (T .node p i) 0 y z))
               (cases-eq y (T .node p i));
           says = rw now (upd-same (s .nexts) (T .node p i) 0);
@@ -149,21 +153,23 @@ module _ (L : Plan) (G : Lawful (L .tree)) (small : (q j : ℕ) → L .cap q j �
       }
 
   -- a rank's own statuses at other levels
-  status-own : (p i u j : ℕ) → On (T .top p) i → On (T .top p) j → j ≢ i
+  status-own : (p i u j : ℕ) → On (T .own-level p) i → On (T .own-level p) j → j ≢ i
       → upd (s .statuses) (T .node p i) u (T .node p j) ≡ s .statuses (T .node p j)
   status-own p i u j on on′ ne =
       upd-other (s .statuses) (T .node p i) u (T .node p j) (λ z. ne (G .queue-of p p j i on′ on z .0))
 
-  counts-own : (p i u : ℕ) → On (T .top p) i → Counts L (s .statuses) p (suc i)
+  counts-own : (p i u : ℕ) → On (T .own-level p) i → Counts L (s .statuses) p (suc i)
       → Counts L (upd (s .statuses) (T .node p i) u) p (suc i)
   counts-own p i u on c j a b = rw (status-own p i u j on (omega arith) (omega arith)) (c j a b)
 
   -- a move that writes no word of a queue
   moved : (p : ℕ) (g : Place) (arrives departs : ℕ → ℕ)
-      → level (T .top p) (phaseOf g (s .statuses (T .node p (at-level g)))) ≡ level (T .top p) (phase T s p)
-      → InRange (T .top p) (phaseOf g (s .statuses (T .node p (at-level g)))) → ((j : ℕ) → Waits (phase T s p) j → ⊥)
+      → hold-level (T .own-level p) (phase-of g (s .statuses (T .node p (status-level g))))
+      ≡ hold-level (T .own-level p) (phase T s p)
+      → InRange (T .own-level p) (phase-of g (s .statuses (T .node p (status-level g))))
+      → ((j : ℕ) → Waits (phase T s p) j → ⊥)
       → Asks T (prepared (view T s) (phase T (go s p g)) (s .nexts)) p
-      (phaseOf g (s .statuses (T .node p (at-level g)))) → Sound L (s .statuses) p g
+      (phase-of g (s .statuses (T .node p (status-level g)))) → Sound L (s .statuses) p g
       → Fine L (record {
         place = upd (s .place) p g;
         nexts = s .nexts;
@@ -176,7 +182,7 @@ module _ (L : Plan) (G : Lawful (L .tree)) (small : (q j : ℕ) → L .cap q j �
         next-turn = s .next-turn;
       })
   moved p g arrives departs lv rg ws ak so =
-      let now : phase T (go s p g) p ≡ phaseOf g (s .statuses (T .node p (at-level g))) = phase-now T s p g in
+      let now : phase T (go s p g) p ≡ phase-of g (s .statuses (T .node p (status-level g))) = phase-now T s p g in
       record {
         queues = kept-by T G (view T s) inv p (phase T (go s p g)) (s .nexts) (record {
           levels = rw now lv;
@@ -194,8 +200,8 @@ module _ (L : Plan) (G : Lawful (L .tree)) (small : (q j : ℕ) → L .cap q j �
       let s₁ : Lock = put-status s (T .node p i) WAIT in
       let was : phase T s p ≡ clean i = phase-at T s p (W2 i) e in
       let now : phase T (go s₁ p (W3 i)) p ≡ ready i = phase-now T s₁ p (W3 i) in
-      let on : On (T .top p) i = range-of (phase T s p) (T .top p) (inv .range p) (clean i) was in
-      let lv : level (T .top p) (phase T s p) ≤ suc i = rw was (omega arith) in
+      let on : On (T .own-level p) i = range-of (phase T s p) (T .own-level p) (inv .range p) (clean i) was in
+      let lv : hold-level (T .own-level p) (phase T s p) ≤ suc i = rw was (omega arith) in
       record {
         queues = kept-by T G (view T s) inv p (phase T (go s₁ p (W3 i))) (s .nexts) (record {
           levels = rw (now, was);
@@ -219,7 +225,7 @@ module _ (L : Plan) (G : Lawful (L .tree)) (small : (q j : ℕ) → L .cap q j �
       subst (Sound L (s .statuses) p) e (v .sound p) in
       let now : phase T (go s p (W5 i)) p ≡ wait i =
       phase-now T s p (W5 i) ∙ w5-wait i (s .statuses (T .node p i)) (so .0) in
-      let on : On (T .top p) i = range-of (phase T s p) (T .top p) (inv .range p) (link i t) was in
+      let on : On (T .own-level p) i = range-of (phase T s p) (T .own-level p) (inv .range p) (link i t) was in
       record {
         queues = linked-up T G (view T s) inv p i t was (phase T (go s p (W5 i))) (upd (s .nexts) t (T .node p i))
             (record {
@@ -232,31 +238,31 @@ module _ (L : Plan) (G : Lawful (L .tree)) (small : (q j : ℕ) → L .cap q j �
       }
 
   fine-W5 : (p i : ℕ) → s .place p ≡ W5 i → Fine L (row L s p (W5 i))
-  fine-W5 p i e = by (eqb w WAIT) (leb w 1000) (eqb w (tell i)) refl refl refl
+  fine-W5 p i e = by (eqb w WAIT) (leb w 1000) (eqb w (told-status i)) refl refl refl
     where
       w : ℕ
       w = s .statuses (T .node p i)
 
-      so : On (T .top p) i × Counts L (s .statuses) p (suc i)
-          × ((w ≡ WAIT) ⊎ ((w ≡ tell i) ⊎ Counts L (s .statuses) p 1))
+      so : On (T .own-level p) i × Counts L (s .statuses) p (suc i)
+          × ((w ≡ WAIT) ⊎ ((w ≡ told-status i) ⊎ Counts L (s .statuses) p 1))
       so = subst (Sound L (s .statuses) p) e (v .sound p)
 
-      all : w ≢ WAIT → w ≢ tell i → Counts L (s .statuses) p 1
+      all : w ≢ WAIT → w ≢ told-status i → Counts L (s .statuses) p 1
       all a b = ⊎-elim
           (λ (z : w ≡ WAIT). absurd (a z))
-          (λ (z : (w ≡ tell i) ⊎ Counts L (s .statuses) p 1).
-          ⊎-elim (λ (y : w ≡ tell i). absurd (b y)) (λ (y : Counts L (s .statuses) p 1). y) z)
+          (λ (z : (w ≡ told-status i) ⊎ Counts L (s .statuses) p 1).
+          ⊎-elim (λ (y : w ≡ told-status i). absurd (b y)) (λ (y : Counts L (s .statuses) p 1). y) z)
           (so .2)
 
-      by : (a b c : Bool) → eqb w WAIT ≡ a → leb w 1000 ≡ b → eqb w (tell i) ≡ c
-          → Fine L (cond a s (cond b (go s p writes) (cond c (go s p (W6 i)) s)))
+      by : (a b c : Bool) → eqb w WAIT ≡ a → leb w 1000 ≡ b → eqb w (told-status i) ≡ c
+          → Fine L (cond a s (cond b (go s p Writer) (cond c (go s p (W6 i)) s)))
       by true b c x y z = v
       by false true c x y z =
           let was : phase T s p ≡ hold 1 = phase-at T s p (W5 i) e ∙ w5-count i w (leb-true w 1000 y) in
-          moved p writes (s .arrives) (s .departs) (rw was) (omega (arith, so .0))
+          moved p Writer (s .arrives) (s .departs) (rw was) (omega (arith, so .0))
           (λ j k. subst (λ f. Waits f j) was k)
           tt
-          (all (eqb-false w WAIT x) (omega (arith, tell-big i, leb-true w 1000 y)))
+          (all (eqb-false w WAIT x) (omega (arith, told-large i, leb-true w 1000 y)))
       by false false true x y z =
           let was : phase T s p ≡ hold i =
           phase-at T s p (W5 i) e ∙ w5-told i w (eqb-false w WAIT x) (leb-false w 1000 y) in
@@ -264,16 +270,16 @@ module _ (L : Plan) (G : Lawful (L .tree)) (small : (q j : ℕ) → L .cap q j �
       by false false false x y z = v
 
   -- a rank writes its own STATUS
-  wrote : (p i u : ℕ) (g : Place) → On (T .top p) i → level (T .top p) (phase T s p) ≤ suc i
-      → level (T .top p) (phaseOf g (upd (s .statuses) (T .node p i) u (T .node p (at-level g))))
-      ≡ level (T .top p) (phase T s p)
-      → InRange (T .top p) (phaseOf g (upd (s .statuses) (T .node p i) u (T .node p (at-level g))))
+  wrote : (p i u : ℕ) (g : Place) → On (T .own-level p) i → hold-level (T .own-level p) (phase T s p) ≤ suc i
+      → hold-level (T .own-level p) (phase-of g (upd (s .statuses) (T .node p i) u (T .node p (status-level g))))
+      ≡ hold-level (T .own-level p) (phase T s p)
+      → InRange (T .own-level p) (phase-of g (upd (s .statuses) (T .node p i) u (T .node p (status-level g))))
       → ((j : ℕ) → Waits (phase T s p) j → ⊥)
-      → Calm (phaseOf g (upd (s .statuses) (T .node p i) u (T .node p (at-level g))))
+      → Calm (phase-of g (upd (s .statuses) (T .node p i) u (T .node p (status-level g))))
       → Sound L (upd (s .statuses) (T .node p i) u) p g → Fine L (go (put-status s (T .node p i) u) p g)
   wrote p i u g on l lv rg ws cm so =
       let s₁ : Lock = put-status s (T .node p i) u in
-      let now : phase T (go s₁ p g) p ≡ phaseOf g (s₁ .statuses (T .node p (at-level g))) = phase-now T s₁ p g in
+      let now : phase T (go s₁ p g) p ≡ phase-of g (s₁ .statuses (T .node p (status-level g))) = phase-now T s₁ p g in
       record {
         queues = kept-by T G (view T s) inv p (phase T (go s₁ p g)) (s .nexts) (record {
           levels = rw now lv;
@@ -283,7 +289,7 @@ module _ (L : Plan) (G : Lawful (L .tree)) (small : (q j : ℕ) → L .cap q j �
           words = λ y. inl refl;
           says = rw now
               (calm-asks T (prepared (view T s) (phase T (go s₁ p g)) (s .nexts)) p
-              (phaseOf g (s₁ .statuses (T .node p (at-level g)))) cm);
+              (phase-of g (s₁ .statuses (T .node p (status-level g)))) cm);
         });
         sound = sound-go (s₁ .statuses) p g so (λ q a. sound-status p i u on l q a);
       }
@@ -294,11 +300,11 @@ module _ (L : Plan) (G : Lawful (L .tree)) (small : (q j : ℕ) → L .cap q j �
       was : phase T s p ≡ hold i
       was = phase-at T s p (W6 i) e
 
-      on : On (T .top p) i
-      on = range-of (phase T s p) (T .top p) (inv .range p) (hold i) was
+      on : On (T .own-level p) i
+      on = range-of (phase T s p) (T .own-level p) (inv .range p) (hold i) was
 
-      lv : level (T .top p) (phase T s p) ≡ i
-      lv = ap (level (T .top p)) was
+      lv : hold-level (T .own-level p) (phase T s p) ≡ i
+      lv = ap (hold-level (T .own-level p)) was
 
       so : Counts L (s .statuses) p (suc i)
       so = subst (Sound L (s .statuses) p) e (v .sound p)
@@ -325,7 +331,7 @@ module _ (L : Plan) (G : Lawful (L .tree)) (small : (q j : ℕ) → L .cap q j �
   fine-W3 p i e = by (eqb (s .tails K) 0) refl
     where
       K : ℕ
-      K = T .elem p i
+      K = T .element p i
 
       X : ℕ
       X = T .node p i
@@ -377,11 +383,11 @@ module _ (L : Plan) (G : Lawful (L .tree)) (small : (q j : ℕ) → L .cap q j �
       by false z = to (W4 i (s .tails K)) (inr (eqb-false (s .tails K) 0 z, phase-now T s p (W4 i (s .tails K)))) so
 
   -- a hand-over: the successor's STATUS becomes u
-  gave : (p h i t u : ℕ) → phase T s p ≡ give h i t → phaseOf (W5 i) u ≡ hold h
+  gave : (p h i t u : ℕ) → phase T s p ≡ give h i t → phase-of (W5 i) u ≡ hold h
       → ((n : Successor T (view T s) p i t) → Sound L (upd (s .statuses) (T .node (n .rank) i) u) (n .rank) (W5 i))
-      → Fine L (go (drop (put-status s t u) (T .elem p i)) p (done L s p i))
+      → Fine L (go (drop (put-status s t u) (T .element p i)) p (done L s p i))
   gave p h i t u was told so = subst
-      (λ y. Fine L (go (drop (put-status s y u) (T .elem p i)) p (done L s p i)))
+      (λ y. Fine L (go (drop (put-status s y u) (T .element p i)) p (done L s p i)))
       (sym (n .target)) (record {
         queues = handed T G (view T s) inv p h i t was n phases (upd (s .head-turn) K (suc (s .head-turn K))) (record {
           giver = rw now (ok .0);
@@ -393,7 +399,7 @@ module _ (L : Plan) (G : Lawful (L .tree)) (small : (q j : ℕ) → L .cap q j �
           head-gone = upd-same (s .head-turn) K (suc (s .head-turn K));
           stay = λ k ne. upd-other (s .head-turn) K (suc (s .head-turn K)) k ne;
         });
-        sound = sound-go (s₁ .statuses) p (done L s p i) (done-sound L (s₁ .statuses) p i (eqb i (T .top p)))
+        sound = sound-go (s₁ .statuses) p (done L s p i) (done-sound L (s₁ .statuses) p i (eqb i (T .own-level p)))
             (λ q a.
             split r
             (λ q. q ≢ p → Sound L (s₁ .statuses) q (s .place q))
@@ -410,7 +416,7 @@ module _ (L : Plan) (G : Lawful (L .tree)) (small : (q j : ℕ) → L .cap q j �
       r = n .rank
 
       K : ℕ
-      K = T .elem p i
+      K = T .element p i
 
       s₁ : Lock
       s₁ = put-status s (T .node r i) u
@@ -418,30 +424,32 @@ module _ (L : Plan) (G : Lawful (L .tree)) (small : (q j : ℕ) → L .cap q j �
       phases : ℕ → Phase
       phases = phase T (go s₁ p (done L s p i))
 
-      rg : (1 ≤ h) × (h ≤ i) × (i ≤ T .top p)
-      rg = range-of (phase T s p) (T .top p) (inv .range p) (give h i t) was
+      rg : (1 ≤ h) × (h ≤ i) × (i ≤ T .own-level p)
+      rg = range-of (phase T s p) (T .own-level p) (inv .range p) (give h i t) was
 
-      now : phases p ≡ phaseOf (done L s p i) (s₁ .statuses (T .node p (at-level (done L s p i))))
+      now : phases p ≡ phase-of (done L s p i) (s₁ .statuses (T .node p (status-level (done L s p i))))
       now = phase-now T s₁ p (done L s p i)
 
-      ok : (level (T .top p) (phaseOf (done L s p i) (s₁ .statuses (T .node p (at-level (done L s p i))))) ≡ suc i)
-          × Calm (phaseOf (done L s p i) (s₁ .statuses (T .node p (at-level (done L s p i)))))
-          × InRange (T .top p) (phaseOf (done L s p i) (s₁ .statuses (T .node p (at-level (done L s p i)))))
-      ok = done-ok (T .top p) i (omega (arith, rg)) (eqb i (T .top p)) refl
-          (s₁ .statuses (T .node p (at-level (done L s p i))))
+      ok : (hold-level (T .own-level p)
+          (phase-of (done L s p i) (s₁ .statuses (T .node p (status-level (done L s p i))))) ≡ suc i)
+          × Calm (phase-of (done L s p i) (s₁ .statuses (T .node p (status-level (done L s p i)))))
+          × InRange (T .own-level p)
+          (phase-of (done L s p i) (s₁ .statuses (T .node p (status-level (done L s p i)))))
+      ok = done-ok (T .own-level p) i (omega (arith, rg)) (eqb i (T .own-level p)) refl
+          (s₁ .statuses (T .node p (status-level (done L s p i))))
 
       at-r : s .place r ≡ W5 i
-      at-r = only-W5 (s .place r) (s .statuses (T .node r (at-level (s .place r)))) i (n .waits)
+      at-r = only-W5 (s .place r) (s .statuses (T .node r (status-level (s .place r)))) i (n .waits)
 
       r≢p : r ≢ p
       r≢p z = subst (λ f. Waits f i) (sym (n .waits) ∙ (ap (phase T s) z ∙ was)) refl
 
-      lv : level (T .top r) (phase T s r) ≤ suc i
+      lv : hold-level (T .own-level r) (phase T s r) ≤ suc i
       lv = rw (n .waits) (omega arith)
 
   -- two ranks of one element have one way up from it
-  way-up : (r p i : ℕ) → On (T .top r) i → On (T .top p) i → T .elem r i ≡ T .elem p i → (j : ℕ) → 1 ≤ j → j < i
-      → T .node r j ≡ T .node p j
+  way-up : (r p i : ℕ) → On (T .own-level r) i → On (T .own-level p) i → T .element r i ≡ T .element p i → (j : ℕ)
+      → 1 ≤ j → j < i → T .node r j ≡ T .node p j
   way-up r p i on on′ e j a l =
       G .shared r p j (omega arith) (omega arith) (omega arith) (G .above r p i (suc j) on on′ (omega arith) l e)
 
@@ -456,15 +464,16 @@ module _ (L : Plan) (G : Lawful (L .tree)) (small : (q j : ℕ) → L .cap q j �
       was : phase T s p ≡ give 1 i t
       was = phase-at T s p (U3 i t n) e
 
-      rg : (1 ≤ 1) × (1 ≤ i) × (i ≤ T .top p)
-      rg = range-of (phase T s p) (T .top p) (inv .range p) (give 1 i t) was
+      rg : (1 ≤ 1) × (1 ≤ i) × (i ≤ T .own-level p)
+      rg = range-of (phase T s p) (T .own-level p) (inv .range p) (give 1 i t) was
 
       so : (n ≤ 1000) × Counts L (s .statuses) p 1
       so = subst (Sound L (s .statuses) p) e (v .sound p)
 
       own : (c : Successor T (view T s) p i t) → Counts L (s .statuses) (c .rank) (suc i)
       own c = subst (Sound L (s .statuses) (c .rank))
-          (only-W5 (s .place (c .rank)) (s .statuses (T .node (c .rank) (at-level (s .place (c .rank))))) i (c .waits))
+          (only-W5 (s .place (c .rank)) (s .statuses (T .node (c .rank) (status-level (s .place (c .rank))))) i
+          (c .waits))
           (v .sound (c .rank)) .1
 
       all : (c : Successor T (view T s) p i t) → Counts L (upd (s .statuses) (T .node (c .rank) i) n) (c .rank) 1
@@ -480,22 +489,23 @@ module _ (L : Plan) (G : Lawful (L .tree)) (small : (q j : ℕ) → L .cap q j �
           by (inr (inr z)) = rw (status-own (c .rank) i n j (c .on) (omega arith) (omega arith)) (own c j z b)
 
   fine-U9 : (p i t : ℕ) → s .place p ≡ U9 i t → Fine L (row L s p (U9 i t))
-  fine-U9 p i t e = gave p i i t (tell i) (phase-at T s p (U9 i t) e)
-      (w5-told i (tell i) (omega (arith, tell-big i)) (tell-big i .1))
+  fine-U9 p i t e = gave p i i t (told-status i) (phase-at T s p (U9 i t) e)
+      (w5-told i (told-status i) (omega (arith, told-large i)) (told-large i .1))
       (λ c. (
         c .on,
-        (λ j a b. rw (status-own (c .rank) i (tell i) j (c .on) (omega arith) (omega arith)) (own c j a b)),
-        inr (inl (upd-same (s .statuses) (T .node (c .rank) i) (tell i))),
+        (λ j a b. rw (status-own (c .rank) i (told-status i) j (c .on) (omega arith) (omega arith)) (own c j a b)),
+        inr (inl (upd-same (s .statuses) (T .node (c .rank) i) (told-status i))),
       ))
     where
       own : (c : Successor T (view T s) p i t) → Counts L (s .statuses) (c .rank) (suc i)
       own c = subst (Sound L (s .statuses) (c .rank))
-          (only-W5 (s .place (c .rank)) (s .statuses (T .node (c .rank) (at-level (s .place (c .rank))))) i (c .waits))
+          (only-W5 (s .place (c .rank)) (s .statuses (T .node (c .rank) (status-level (s .place (c .rank))))) i
+          (c .waits))
           (v .sound (c .rank)) .1
 
   -- a move that leaves the phase alone
   quiet : (p : ℕ) (g : Place) (arrives departs : ℕ → ℕ)
-      → phaseOf g (s .statuses (T .node p (at-level g))) ≡ phase T s p → Calm (phase T s p)
+      → phase-of g (s .statuses (T .node p (status-level g))) ≡ phase T s p → Calm (phase T s p)
       → Sound L (s .statuses) p g
       → Fine L (record {
         place = upd (s .place) p g;
@@ -508,10 +518,10 @@ module _ (L : Plan) (G : Lawful (L .tree)) (small : (q j : ℕ) → L .cap q j �
         head-turn = s .head-turn;
         next-turn = s .next-turn;
       })
-  quiet p g arrives departs e c so = moved p g arrives departs (ap (level (T .top p)) e) (rw e (inv .range p))
-      (calm-waits (phase T s p) c)
+  quiet p g arrives departs e c so = moved p g arrives departs (ap (hold-level (T .own-level p)) e)
+      (rw e (inv .range p)) (calm-waits (phase T s p) c)
       (calm-asks T (prepared (view T s) (phase T (go s p g)) (s .nexts)) p
-      (phaseOf g (s .statuses (T .node p (at-level g)))) (rw e c))
+      (phase-of g (s .statuses (T .node p (status-level g)))) (rw e c))
       so
 
   fine-U8 : (p i : ℕ) → s .place p ≡ U8 i → Fine L (row L s p (U8 i))
@@ -520,8 +530,8 @@ module _ (L : Plan) (G : Lawful (L .tree)) (small : (q j : ℕ) → L .cap q j �
       was : phase T s p ≡ hold i
       was = phase-at T s p (U8 i) e
 
-      on : On (T .top p) i
-      on = range-of (phase T s p) (T .top p) (inv .range p) (hold i) was
+      on : On (T .own-level p) i
+      on = range-of (phase T s p) (T .own-level p) (inv .range p) (hold i) was
 
       by : (b : Bool) → eqb (s .nexts (T .node p i)) 0 ≡ b
           → Fine L (go s p (cond b (U10 i) (U9 i (s .nexts (T .node p i)))))
@@ -535,22 +545,24 @@ module _ (L : Plan) (G : Lawful (L .tree)) (small : (q j : ℕ) → L .cap q j �
   fine-U10 p i e = by (eqb (s .tails K) (T .node p i)) refl
     where
       K : ℕ
-      K = T .elem p i
+      K = T .element p i
 
       was : phase T s p ≡ hold i
       was = phase-at T s p (U10 i) e
 
-      on : On (T .top p) i
-      on = range-of (phase T s p) (T .top p) (inv .range p) (hold i) was
+      on : On (T .own-level p) i
+      on = range-of (phase T s p) (T .own-level p) (inv .range p) (hold i) was
 
       now : phase T (go s p (done L s p i)) p
-          ≡ phaseOf (done L s p i) (s .statuses (T .node p (at-level (done L s p i))))
+          ≡ phase-of (done L s p i) (s .statuses (T .node p (status-level (done L s p i))))
       now = phase-now T s p (done L s p i)
 
-      ok : (level (T .top p) (phaseOf (done L s p i) (s .statuses (T .node p (at-level (done L s p i))))) ≡ suc i)
-          × Calm (phaseOf (done L s p i) (s .statuses (T .node p (at-level (done L s p i)))))
-          × InRange (T .top p) (phaseOf (done L s p i) (s .statuses (T .node p (at-level (done L s p i)))))
-      ok = done-ok (T .top p) i on (eqb i (T .top p)) refl (s .statuses (T .node p (at-level (done L s p i))))
+      ok : (hold-level (T .own-level p)
+          (phase-of (done L s p i) (s .statuses (T .node p (status-level (done L s p i))))) ≡ suc i)
+          × Calm (phase-of (done L s p i) (s .statuses (T .node p (status-level (done L s p i)))))
+          × InRange (T .own-level p) (phase-of (done L s p i) (s .statuses (T .node p (status-level (done L s p i)))))
+      ok = done-ok (T .own-level p) i on (eqb i (T .own-level p)) refl
+          (s .statuses (T .node p (status-level (done L s p i))))
 
       by : (b : Bool) → eqb (s .tails K) (T .node p i) ≡ b
           → Fine L (cond b (go (free s K) p (done L s p i)) (go s p (U8 i)))
@@ -568,14 +580,14 @@ module _ (L : Plan) (G : Lawful (L .tree)) (small : (q j : ℕ) → L .cap q j �
                   head-gone = upd-same (s .head-turn) K (suc (s .head-turn K));
                   stay = λ k ne. upd-other (s .head-turn) K (suc (s .head-turn K)) k ne;
                 });
-            sound = sound-go (s .statuses) p (done L s p i) (done-sound L (s .statuses) p i (eqb i (T .top p)))
+            sound = sound-go (s .statuses) p (done L s p i) (done-sound L (s .statuses) p i (eqb i (T .own-level p)))
                 (λ q a. v .sound q);
           }
       by false z = quiet p (U8 i) (s .arrives) (s .departs) (sym was) (rw was tt) tt
 
   -- places of one phase, whatever the words
   abbrev At : Phase → ℕ → Place → Type 0
-  At f p g = ((w : ℕ) → phaseOf g w ≡ f) × Sound L (s .statuses) p g
+  At f p g = ((w : ℕ) → phase-of g w ≡ f) × Sound L (s .statuses) p g
 
   to : (f : Phase) → Calm f → (p : ℕ) → phase T s p ≡ f → (g : Place) (arrives departs : ℕ → ℕ) → At f p g
       → Fine L (record {
@@ -590,29 +602,30 @@ module _ (L : Plan) (G : Lawful (L .tree)) (small : (q j : ℕ) → L .cap q j �
         next-turn = s .next-turn;
       })
   to f c p was g arrives departs h =
-      quiet p g arrives departs (h .0 (s .statuses (T .node p (at-level g))) ∙ sym was) (rw was c) (h .1)
+      quiet p g arrives departs (h .0 (s .statuses (T .node p (status-level g))) ∙ sym was) (rw was c) (h .1)
 
   -- while a writer is on its way out: hand over at level i, or go on to g
-  choose : (p i n : ℕ) → phase T s p ≡ hold 1 → On (T .top p) i → Counts L (s .statuses) p 1 → (g : Place)
+  choose : (p i n : ℕ) → phase T s p ≡ hold 1 → On (T .own-level p) i → Counts L (s .statuses) p 1 → (g : Place)
       → At (hold 1) p g
       → Fine L
       (go s p
       (cond (eqb (s .nexts (T .node p i)) 0) g
-      (cond (ltb n (L .cap p i)) (U3 i (s .nexts (T .node p i)) (suc n)) g)))
-  choose p i n was on so g h = by (eqb (s .nexts (T .node p i)) 0) (ltb n (L .cap p i)) refl refl
+      (cond (ltb n (L .hand-over-limit p i)) (U3 i (s .nexts (T .node p i)) (suc n)) g)))
+  choose p i n was on so g h = by (eqb (s .nexts (T .node p i)) 0) (ltb n (L .hand-over-limit p i)) refl refl
     where
-      by : (a b : Bool) → eqb (s .nexts (T .node p i)) 0 ≡ a → ltb n (L .cap p i) ≡ b
+      by : (a b : Bool) → eqb (s .nexts (T .node p i)) 0 ≡ a → ltb n (L .hand-over-limit p i) ≡ b
           → Fine L (go s p (cond a g (cond b (U3 i (s .nexts (T .node p i)) (suc n)) g)))
       by true b x y = to (hold 1) tt p was g (s .arrives) (s .departs) h
       by false true x y = moved p (U3 i (s .nexts (T .node p i)) (suc n)) (s .arrives) (s .departs) (rw was)
           (omega (arith, on))
           (λ j k. subst (λ f. Waits f j) was k)
           (refl, eqb-false (s .nexts (T .node p i)) 0 x)
-          (omega (arith, ltb-true n (L .cap p i) y, small p i), so)
+          (omega (arith, ltb-true n (L .hand-over-limit p i) y, small p i), so)
       by false false x y = to (hold 1) tt p was g (s .arrives) (s .departs) h
 
   -- the next level up
-  up : (p i : ℕ) → 2 ≤ i → i ≤ T .top p → Counts L (s .statuses) p 1 → At (hold 1) p (cond (leb i 2) U4 (U1 (pred i)))
+  up : (p i : ℕ) → 2 ≤ i → i ≤ T .own-level p → Counts L (s .statuses) p 1
+      → At (hold 1) p (cond (leb i 2) U4 (U1 (pred i)))
   up p i a b so = cond-both (leb i 2) U4 (U1 (pred i)) (At (hold 1) p)
       (λ _. ((λ w. refl), so))
       (λ z. ((λ w. refl), (omega (arith, leb-false i 2 z), omega arith, so)))
@@ -625,8 +638,8 @@ module _ (L : Plan) (G : Lawful (L .tree)) (small : (q j : ℕ) → L .cap q j �
   either : (p : ℕ) (b : Bool) (f g : Place) → At out p f → At out p g → At out p (cond b f g)
   either p b f g x y = cond-both b f g (At out p) (λ _. x) (λ _. y)
 
-  pub fine-row : (p : ℕ) → On (T .top p) 1 → (f : Place) → s .place p ≡ f → Fine L (row L s p f)
-  fine-row p o idle e = v
+  pub fine-row : (p : ℕ) → On (T .own-level p) 1 → (f : Place) → s .place p ≡ f → Fine L (row L s p f)
+  fine-row p o Idle e = v
   fine-row p o (W1 i) e = fine-W1 p i e
   fine-row p o (W2 i) e = fine-W2 p i e
   fine-row p o (W3 i) e = fine-W3 p i e
@@ -643,9 +656,9 @@ module _ (L : Plan) (G : Lawful (L .tree)) (small : (q j : ℕ) → L .cap q j �
   fine-row p o (W9 n a) e =
       let so = subst (Sound L (s .statuses) p) e (v .sound p) in
       to (hold 1) tt p (phase-at T s p (W9 n a) e)
-      (cond (eqb a (2 ^ 62 + s .departs n)) (next L s p n writes W8) (W8 n)) (s .arrives) (s .departs)
-      (cond-both (eqb a (2 ^ 62 + s .departs n)) (next L s p n writes W8) (W8 n) (At (hold 1) p)
-      (λ _. after p n so writes W8 ((λ w. refl), so) (λ k. ((λ w. refl), so)))
+      (cond (eqb a (2 ^ 62 + s .departs n)) (next L s p n Writer W8) (W8 n)) (s .arrives) (s .departs)
+      (cond-both (eqb a (2 ^ 62 + s .departs n)) (next L s p n Writer W8) (W8 n) (At (hold 1) p)
+      (λ _. after p n so Writer W8 ((λ w. refl), so) (λ k. ((λ w. refl), so)))
       (λ _. ((λ w. refl), so)))
   fine-row p o (U1 i) e =
       let so = subst (Sound L (s .statuses) p) e (v .sound p) in
@@ -675,56 +688,60 @@ module _ (L : Plan) (G : Lawful (L .tree)) (small : (q j : ℕ) → L .cap q j �
   fine-row p o (U8 i) e = fine-U8 p i e
   fine-row p o (U9 i t) e = fine-U9 p i t e
   fine-row p o (U10 i) e = fine-U10 p i e
-  fine-row p o R1 e = to out tt p (phase-at T s p R1 e) (cond (ltb (s .arrives (L .home p)) (L .TR)) reads R2)
+  fine-row p o R1 e = to out tt p (phase-at T s p R1 e)
+      (cond (ltb (s .arrives (L .home p)) (L .reader-threshold)) Reader R2)
       (upd (s .arrives) (L .home p) (suc (s .arrives (L .home p)))) (s .departs)
-      (either p (ltb (s .arrives (L .home p)) (L .TR)) reads R2 ((λ w. refl), tt) ((λ w. refl), tt))
+      (either p (ltb (s .arrives (L .home p)) (L .reader-threshold)) Reader R2 ((λ w. refl), tt) ((λ w. refl), tt))
   fine-row p o R2 e = to out tt p (phase-at T s p R2 e) R3
       (upd (s .arrives) (L .home p) (pred (s .arrives (L .home p)))) (s .departs) ((λ w. refl), tt)
   fine-row p o R3 e = to out tt p (phase-at T s p R3 e)
-      (cond (ltb (s .arrives (L .home p)) (L .TR)) R1 (cond (leb (2 ^ 62) (s .arrives (L .home p))) R3 R4))
+      (cond (ltb (s .arrives (L .home p)) (L .reader-threshold)) R1
+      (cond (leb (2 ^ 62) (s .arrives (L .home p))) R3 R4))
       (s .arrives) (s .departs)
-      (either p (ltb (s .arrives (L .home p)) (L .TR)) R1 (cond (leb (2 ^ 62) (s .arrives (L .home p))) R3 R4)
-      ((λ w. refl), tt)
+      (either p (ltb (s .arrives (L .home p)) (L .reader-threshold)) R1
+      (cond (leb (2 ^ 62) (s .arrives (L .home p))) R3 R4) ((λ w. refl), tt)
       (either p (leb (2 ^ 62) (s .arrives (L .home p))) R3 R4 ((λ w. refl), tt) ((λ w. refl), tt)))
-  fine-row p o R4 e = to out tt p (phase-at T s p R4 e) (cond (eqb (s .tails (T .elem p 1)) 0) R5 R3) (s .arrives)
-      (s .departs) (either p (eqb (s .tails (T .elem p 1)) 0) R5 R3 ((λ w. refl), tt) ((λ w. refl), tt))
+  fine-row p o R4 e = to out tt p (phase-at T s p R4 e) (cond (eqb (s .tails (T .element p 1)) 0) R5 R3) (s .arrives)
+      (s .departs) (either p (eqb (s .tails (T .element p 1)) 0) R5 R3 ((λ w. refl), tt) ((λ w. refl), tt))
   fine-row p o R5 e = to out tt p (phase-at T s p R5 e) (R6 (s .departs (L .home p))) (s .arrives)
       (upd (s .departs) (L .home p) 0) ((λ w. refl), tt)
   fine-row p o (R6 n) e = to out tt p (phase-at T s p (R6 n) e) R3
       (upd (s .arrives) (L .home p) (s .arrives (L .home p) - n)) (s .departs) ((λ w. refl), tt)
-  fine-row p o R7 e = to out tt p (phase-at T s p R7 e) idle (s .arrives)
+  fine-row p o R7 e = to out tt p (phase-at T s p R7 e) Idle (s .arrives)
       (upd (s .departs) (L .home p) (suc (s .departs (L .home p)))) ((λ w. refl), tt)
-  fine-row p o writes e = v
-  fine-row p o reads e = v
+  fine-row p o Writer e = v
+  fine-row p o Reader e = v
 
   -- the calls besides a step
-  pub fine-ask-write : (p : ℕ) → On (T .top p) 1 → s .place p ≡ idle → Fine L (go s p (W1 (T .top p)))
+  pub fine-ask-write : (p : ℕ) → On (T .own-level p) 1 → s .place p ≡ Idle → Fine L (go s p (W1 (T .own-level p)))
   fine-ask-write p o e =
-      let was : phase T s p ≡ out = phase-at T s p idle e in
-      moved p (W1 (T .top p)) (s .arrives) (s .departs) (rw was) (omega arith)
+      let was : phase T s p ≡ out = phase-at T s p Idle e in
+      moved p (W1 (T .own-level p)) (s .arrives) (s .departs) (rw was) (omega arith)
       (λ j k. subst (λ f. Waits f j) was k)
       tt
       (λ j a b. absurd (omega arith))
 
-  pub fine-ask-read : (p : ℕ) → s .place p ≡ idle → Fine L (go s p R1)
-  fine-ask-read p e = to out tt p (phase-at T s p idle e) R1 (s .arrives) (s .departs) ((λ w. refl), tt)
+  pub fine-ask-read : (p : ℕ) → s .place p ≡ Idle → Fine L (go s p R1)
+  fine-ask-read p e = to out tt p (phase-at T s p Idle e) R1 (s .arrives) (s .departs) ((λ w. refl), tt)
 
-  pub fine-leave-write : (p : ℕ) → s .place p ≡ writes → Fine L (go s p (cond (leb (T .top p) 1) U4 (U1 (T .top p))))
+  pub fine-leave-write : (p : ℕ) → s .place p ≡ Writer
+      → Fine L (go s p (cond (leb (T .own-level p) 1) U4 (U1 (T .own-level p))))
   fine-leave-write p e =
       let so = subst (Sound L (s .statuses) p) e (v .sound p) in
-      to (hold 1) tt p (phase-at T s p writes e) (cond (leb (T .top p) 1) U4 (U1 (T .top p))) (s .arrives) (s .departs)
-      (cond-both (leb (T .top p) 1) U4 (U1 (T .top p)) (At (hold 1) p)
+      to (hold 1) tt p (phase-at T s p Writer e) (cond (leb (T .own-level p) 1) U4 (U1 (T .own-level p))) (s .arrives)
+      (s .departs)
+      (cond-both (leb (T .own-level p) 1) U4 (U1 (T .own-level p)) (At (hold 1) p)
       (λ _. ((λ w. refl), so))
-      (λ z. ((λ w. refl), (leb-false (T .top p) 1 z, omega arith, so))))
+      (λ z. ((λ w. refl), (leb-false (T .own-level p) 1 z, omega arith, so))))
 
-  pub fine-leave-read : (p : ℕ) → s .place p ≡ reads → Fine L (go s p R7)
-  fine-leave-read p e = to out tt p (phase-at T s p reads e) R7 (s .arrives) (s .departs) ((λ w. refl), tt)
+  pub fine-leave-read : (p : ℕ) → s .place p ≡ Reader → Fine L (go s p R7)
+  fine-leave-read p e = to out tt p (phase-at T s p Reader e) R7 (s .arrives) (s .departs) ((λ w. refl), tt)
 
   -- writers exclude writers: element 1 is everyone's
-  pub one-writer : (p r : ℕ) → On (T .top p) 1 → On (T .top r) 1 → T .elem p 1 ≡ T .elem r 1 → s .place p ≡ writes
-      → s .place r ≡ writes → p ≡ r
+  pub one-writer : (p r : ℕ) → On (T .own-level p) 1 → On (T .own-level r) 1 → T .element p 1 ≡ T .element r 1
+      → s .place p ≡ Writer → s .place r ≡ Writer → p ≡ r
   one-writer p r on on′ e a b = one-holder T G (view T s) inv p r 1 on on′
-      (rw (phase-at T s p writes a) (omega arith)) (rw (phase-at T s r writes b) (omega arith)) e
+      (rw (phase-at T s p Writer a) (omega arith)) (rw (phase-at T s r Writer b) (omega arith)) e
 
 pub fine-start : (L : Plan) → Fine L fresh-lock
 fine-start L =
@@ -747,15 +764,16 @@ fine-start L =
 -- a job: any calls, in any order
 pub data Job (L : Plan) : Lock → Type 0 where
   start : Job L fresh-lock
-  stepped : (s : Lock) (p : ℕ) → On (L .tree .top p) 1 → Job L s → Job L (step L s p)
-  asked-write : (s : Lock) (p : ℕ) → On (L .tree .top p) 1 → s .place p ≡ idle → Job L s
-      → Job L (go s p (W1 (L .tree .top p)))
-  asked-read : (s : Lock) (p : ℕ) → s .place p ≡ idle → Job L s → Job L (go s p R1)
-  left-write : (s : Lock) (p : ℕ) → s .place p ≡ writes → Job L s
-      → Job L (go s p (cond (leb (L .tree .top p) 1) U4 (U1 (L .tree .top p))))
-  left-read : (s : Lock) (p : ℕ) → s .place p ≡ reads → Job L s → Job L (go s p R7)
+  stepped : (s : Lock) (p : ℕ) → On (L .tree .own-level p) 1 → Job L s → Job L (step L s p)
+  asked-write : (s : Lock) (p : ℕ) → On (L .tree .own-level p) 1 → s .place p ≡ Idle → Job L s
+      → Job L (go s p (W1 (L .tree .own-level p)))
+  asked-read : (s : Lock) (p : ℕ) → s .place p ≡ Idle → Job L s → Job L (go s p R1)
+  left-write : (s : Lock) (p : ℕ) → s .place p ≡ Writer → Job L s
+      → Job L (go s p (cond (leb (L .tree .own-level p) 1) U4 (U1 (L .tree .own-level p))))
+  left-read : (s : Lock) (p : ℕ) → s .place p ≡ Reader → Job L s → Job L (go s p R7)
 
-pub fine-job : (L : Plan) → Lawful (L .tree) → ((q j : ℕ) → L .cap q j ≤ 1000) → (s : Lock) → Job L s → Fine L s
+pub fine-job : (L : Plan) → Lawful (L .tree) → ((q j : ℕ) → L .hand-over-limit q j ≤ 1000) → (s : Lock) → Job L s
+    → Fine L s
 fine-job L G small s start = fine-start L
 fine-job L G small s (stepped s₀ p o j) = fine-row L G small s₀ (fine-job L G small s₀ j) p o (s₀ .place p) refl
 fine-job L G small s (asked-write s₀ p o e j) = fine-ask-write L G small s₀ (fine-job L G small s₀ j) p o e

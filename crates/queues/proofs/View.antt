@@ -6,11 +6,12 @@ use mathlib.Core.Bool.{Bool, true, false, cond}
 use lib.Dec.{eqb, leb}
 use native.Mathlib.Omega.{arith}
 use Rattle.std.proofs.shelf.Tests.{cases-eq, eq-eqb, ne-eqb, le-leb, lt-leb}
-use Rattle.queues.specs.Machine.{Tree, Lawful, On, Phase, out, fresh, clean, ready, link, wait, hold, give, level}
+use Rattle.queues.specs.Machine.{Tree, Lawful, On, Phase, out, fresh, clean, ready, link, wait, hold, give, hold-level}
 use Rattle.queues.specs.Machine.{InRange, State, Inv}
-use Rattle.queues.specs.Rows.{Place, idle, W1, W2, W3, W4, W5, W6, W7, W8, W9, U1, U2, U3, U4, U5, U6, U7, U8, U9}
-use Rattle.queues.specs.Rows.{U10, R1, R2, R3, R4, R5, R6, R7, writes, reads, WAIT, tell, Plan, Lock, upd, phaseOf}
-use Rattle.queues.specs.Rows.{at-level, phase, view, Counts, Sound, Fine}
+use Rattle.queues.specs.Rows.{Place, Idle, W1, W2, W3, W4, W5, W6, W7, W8, W9, U1, U2, U3, U4, U5, U6, U7, U8, U9}
+use Rattle.queues.specs.Rows.{U10, R1, R2, R3, R4, R5, R6, R7, Writer, Reader, WAIT, told-status, Plan, Lock, upd}
+use Rattle.queues.specs.Rows.{phase-of}
+use Rattle.queues.specs.Rows.{status-level, phase, view, Counts, Sound, Fine}
 use Rattle.queues.proofs.Base.{one-owner}
 use Rattle.queues.proofs.Split.{split}
 
@@ -39,9 +40,9 @@ framed T s s′ a b c d e f v = subst (Inv T)
     v
 
 -- a phase reads a word at W5 alone
-pub phase-same : (f : Place) (w w′ : ℕ) → ((j : ℕ) → f ≡ W5 j → w′ ≡ w) → phaseOf f w′ ≡ phaseOf f w
-phase-same (W5 j) w w′ e = ap (phaseOf (W5 j)) (e j refl)
-phase-same idle w w′ e = refl
+pub phase-same : (f : Place) (w w′ : ℕ) → ((j : ℕ) → f ≡ W5 j → w′ ≡ w) → phase-of f w′ ≡ phase-of f w
+phase-same (W5 j) w w′ e = ap (phase-of (W5 j)) (e j refl)
+phase-same Idle w w′ e = refl
 phase-same (W1 i) w w′ e = refl
 phase-same (W2 i) w w′ e = refl
 phase-same (W3 i) w w′ e = refl
@@ -67,69 +68,75 @@ phase-same R4 w w′ e = refl
 phase-same R5 w w′ e = refl
 phase-same (R6 n) w w′ e = refl
 phase-same R7 w w′ e = refl
-phase-same writes w w′ e = refl
-phase-same reads w w′ e = refl
+phase-same Writer w w′ e = refl
+phase-same Reader w w′ e = refl
 
 -- the three phases of W5
-pub w5-wait : (i w : ℕ) → w ≡ WAIT → phaseOf (W5 i) w ≡ wait i
+pub w5-wait : (i w : ℕ) → w ≡ WAIT → phase-of (W5 i) w ≡ wait i
 w5-wait i w e = rw (eq-eqb w WAIT e)
 
-pub w5-count : (i w : ℕ) → w ≤ 1000 → phaseOf (W5 i) w ≡ hold 1
+pub w5-count : (i w : ℕ) → w ≤ 1000 → phase-of (W5 i) w ≡ hold 1
 w5-count i w e = rw (ne-eqb w WAIT (omega arith), le-leb w 1000 e)
 
-pub w5-told : (i w : ℕ) → w ≢ WAIT → 1000 < w → phaseOf (W5 i) w ≡ hold i
+pub w5-told : (i w : ℕ) → w ≢ WAIT → 1000 < w → phase-of (W5 i) w ≡ hold i
 w5-told i w e h = rw (ne-eqb w WAIT e, lt-leb w 1000 h)
 
-pub tell-big : (i : ℕ) → (WAIT < tell i) × (1000 < tell i)
-tell-big i = ⊎-elim
+pub told-large : (i : ℕ) → (WAIT < told-status i) × (1000 < told-status i)
+told-large i = ⊎-elim
     (λ (z : i ≡ 1). rw (eq-eqb i 1 z) (omega arith))
     (λ (z : i ≡ 1 → ⊥). rw (ne-eqb i 1 z) (omega arith))
     (cases-eq i 1)
 
 -- at W5 a rank holds all below
-w5-levels : (top i : ℕ) (a b : Bool) → level top (cond a (wait i) (cond b (hold 1) (hold i))) ≤ suc i
+w5-levels : (top i : ℕ) (a b : Bool) → hold-level top (cond a (wait i) (cond b (hold 1) (hold i))) ≤ suc i
 w5-levels top i true b = omega arith
 w5-levels top i false true = omega arith
 w5-levels top i false false = omega arith
 
-pub w5-level : (top i w : ℕ) → level top (phaseOf (W5 i) w) ≤ suc i
+pub w5-level : (top i w : ℕ) → hold-level top (phase-of (W5 i) w) ≤ suc i
 w5-level top i w = w5-levels top i (eqb w WAIT) (leb w 1000)
 
-module _ (L : Plan) (small : (q j : ℕ) → L .cap q j ≤ 1000) (statuses st′ : ℕ → ℕ) (q : ℕ) where
+module _ (L : Plan) (small : (q j : ℕ) → L .hand-over-limit q j ≤ 1000) (statuses st′ : ℕ → ℕ) (q : ℕ) where
   -- the statuses that a rank's place speaks of are as they were
   abbrev Same : ℕ → Type 0
-  Same h = (j : ℕ) → On (L .tree .top q) j → h ≤ suc j → st′ (L .tree .node q j) ≡ statuses (L .tree .node q j)
+  Same h = (j : ℕ) → On (L .tree .own-level q) j → h ≤ suc j → st′ (L .tree .node q j) ≡ statuses (L .tree .node q j)
 
   counts-same : (h from : ℕ) → h ≤ suc from → 1 ≤ from → Same h → Counts L statuses q from → Counts L st′ q from
   counts-same h from l o e c j a b = rw (e j (omega arith) (omega arith)) (c j a b)
 
-  sound-w5 : (i : ℕ) → Same (level (L .tree .top q) (phaseOf (W5 i) (statuses (L .tree .node q i))))
+  sound-w5 : (i : ℕ) → Same (hold-level (L .tree .own-level q) (phase-of (W5 i) (statuses (L .tree .node q i))))
       → Sound L statuses q (W5 i) → Sound L st′ q (W5 i)
   sound-w5 i e c = (
     c .0,
-    counts-same (level (L .tree .top q) (phaseOf (W5 i) w)) (suc i) (omega (arith, lv)) (omega arith) e (c .1),
+    counts-same (hold-level (L .tree .own-level q) (phase-of (W5 i) w)) (suc i) (omega (arith, lv)) (omega arith) e
+        (c .1),
     by (c .2),
   )
     where
       w : ℕ
       w = statuses (L .tree .node q i)
 
-      lv : level (L .tree .top q) (phaseOf (W5 i) w) ≤ suc i
-      lv = w5-level (L .tree .top q) i w
+      lv : hold-level (L .tree .own-level q) (phase-of (W5 i) w) ≤ suc i
+      lv = w5-level (L .tree .own-level q) i w
 
-      by : (w ≡ WAIT) ⊎ ((w ≡ tell i) ⊎ Counts L statuses q 1)
-          → (st′ (L .tree .node q i) ≡ WAIT) ⊎ ((st′ (L .tree .node q i) ≡ tell i) ⊎ Counts L st′ q 1)
+      by : (w ≡ WAIT) ⊎ ((w ≡ told-status i) ⊎ Counts L statuses q 1)
+          → (st′ (L .tree .node q i) ≡ WAIT) ⊎ ((st′ (L .tree .node q i) ≡ told-status i) ⊎ Counts L st′ q 1)
       by (inl z) = inl (e i (c .0) lv ∙ z)
       by (inr (inl z)) = inr (inl (e i (c .0) lv ∙ z))
       by (inr (inr z)) =
-          let one : level (L .tree .top q) (phaseOf (W5 i) w) ≡ 1 =
-          ap (level (L .tree .top q)) (w5-count i w (omega (arith, z i (c .0 .from) (c .0 .upto), small i))) in
-          inr (inr (counts-same (level (L .tree .top q) (phaseOf (W5 i) w)) 1 (omega arith) (omega arith) e z))
+          let one : hold-level (L .tree .own-level q) (phase-of (W5 i) w) ≡ 1 =
+          ap (hold-level (L .tree .own-level q))
+          (w5-count i w (omega (arith, z i (c .0 .from) (c .0 .upto), small i))) in
+          inr
+          (inr
+          (counts-same (hold-level (L .tree .own-level q) (phase-of (W5 i) w)) 1 (omega arith)
+          (omega arith) e z))
 
-  pub sound-same : (f : Place) → Same (level (L .tree .top q) (phaseOf f (statuses (L .tree .node q (at-level f)))))
-      → Sound L statuses q f → InRange (L .tree .top q) (phaseOf f (statuses (L .tree .node q (at-level f))))
-      → Sound L st′ q f
-  sound-same idle e c o = tt
+  pub sound-same : (f : Place)
+      → Same (hold-level (L .tree .own-level q) (phase-of f (statuses (L .tree .node q (status-level f)))))
+      → Sound L statuses q f
+      → InRange (L .tree .own-level q) (phase-of f (statuses (L .tree .node q (status-level f)))) → Sound L st′ q f
+  sound-same Idle e c o = tt
   sound-same (W1 i) e c o = counts-same (suc i) (suc i) (omega arith) (omega arith) e c
   sound-same (W2 i) e c o = counts-same (suc i) (suc i) (omega arith) (omega arith) e c
   sound-same (W3 i) e c o =
@@ -158,5 +165,5 @@ module _ (L : Plan) (small : (q j : ℕ) → L .cap q j ≤ 1000) (statuses st�
   sound-same R5 e c o = tt
   sound-same (R6 n) e c o = tt
   sound-same R7 e c o = tt
-  sound-same writes e c o = counts-same 1 1 (omega arith) (omega arith) e c
-  sound-same reads e c o = tt
+  sound-same Writer e c o = counts-same 1 1 (omega arith) (omega arith) e c
+  sound-same Reader e c o = tt

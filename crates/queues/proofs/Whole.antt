@@ -7,19 +7,21 @@ use lib.Dec.{eqb, leb, ltb}
 use native.Mathlib.Omega.{arith}
 use Rattle.std.proofs.shelf.Tests.{cases-eq, cases-lt, cond-both, eq-eqb, ne-eqb, le-leb, lt-leb, eqb-true, eqb-false}
 use Rattle.std.proofs.shelf.Tests.{leb-true, leb-false, ltb-true, ltb-false}
-use Rattle.queues.specs.Machine.{Tree, Lawful, On, Phase, wait, hold, give, level, InRange, Waits, Inv}
-use Rattle.queues.specs.Rows.{Place, idle, W1, W2, W3, W4, W5, W6, W7, W8, W9, U1, U2, U3, U4, U5, U6, U7, U8, U9}
-use Rattle.queues.specs.Rows.{U10, R1, R2, R3, R4, R5, R6, R7, writes, reads, WAIT, tell, Plan, Lock, upd, phaseOf}
-use Rattle.queues.specs.Rows.{at-level, phase, view, Sound, Fine, go, put-status, free, done, next, row}
-use Rattle.queues.specs.Counters.{total, pick, Load, none, trying, inside, leaving, carrying, clearing, tries, clears}
-use Rattle.queues.specs.Counters.{Gate, shut, raising, checking, reading, wide, lowering, Marks, Keeps, Tally, F}
+use Rattle.queues.specs.Machine.{Tree, Lawful, On, Phase, wait, hold, give, hold-level, InRange, Waits, Inv}
+use Rattle.queues.specs.Rows.{Place, Idle, W1, W2, W3, W4, W5, W6, W7, W8, W9, U1, U2, U3, U4, U5, U6, U7, U8, U9}
+use Rattle.queues.specs.Rows.{U10, R1, R2, R3, R4, R5, R6, R7, Writer, Reader, WAIT, told-status, Plan, Lock, upd}
+use Rattle.queues.specs.Rows.{phase-of}
+use Rattle.queues.specs.Rows.{status-level, phase, view, Sound, Fine, go, put-status, free, done, next, row}
+use Rattle.queues.specs.Counters.{total, pick, Load, none, trying, inside, leaving, carrying, clearing, tries, admits}
+use Rattle.queues.specs.Counters.{clears}
+use Rattle.queues.specs.Counters.{Gate, shut, raising, checking, reading, wide, lowering, Marks, Keeps, Tally}
+use Rattle.queues.specs.Counters.{write-bit}
 use Rattle.queues.specs.Counters.{Count, Counted}
-use Rattle.queues.specs.Counters
-use Rattle.queues.specs.Whole.{gateOf, loadOf, Within, gate, tally, Safe}
+use Rattle.queues.specs.Whole.{gate-of, load-of, Within, gate, tally, Safe}
 use Rattle.queues.proofs.Base.{one-holder, Successor, successor}
 use Rattle.queues.proofs.Split.{split, split₂}
 use Rattle.queues.proofs.Sum.{pick-same, pick-other, total-part, total-same, total-zero}
-use Rattle.queues.proofs.View.{upd-same, upd-other, w5-level, tell-big}
+use Rattle.queues.proofs.View.{upd-same, upd-other, w5-level, told-large}
 use Rattle.queues.proofs.Counters.{Local, Shift, Drains, drained, Enters, entered, nobody-in}
 use Rattle.queues.proofs.Gates.{Flips, flipped, Trades, traded}
 use Rattle.queues.proofs.Steps.{phase-at, status-other, only-W5, fine-row, fine-ask-write, fine-ask-read}
@@ -28,13 +30,13 @@ use Rattle.queues.specs.Claim.{fresh-lock, Sensible, Jobs, start, stepped, ask
 use Rattle.queues.specs.Claim.{left-read, Exclusion}
 
 -- a gate reads a word at W5 alone
-pub gate-same : (f : Place) (w w′ : ℕ) → ((j : ℕ) → f ≡ W5 j → w′ ≡ w) → gateOf f w′ ≡ gateOf f w
-gate-same idle w w′ e = refl
+pub gate-same : (f : Place) (w w′ : ℕ) → ((j : ℕ) → f ≡ W5 j → w′ ≡ w) → gate-of f w′ ≡ gate-of f w
+gate-same Idle w w′ e = refl
 gate-same (W1 i) w w′ e = refl
 gate-same (W2 i) w w′ e = refl
 gate-same (W3 i) w w′ e = refl
 gate-same (W4 i t) w w′ e = refl
-gate-same (W5 i) w w′ e = ap (gateOf (W5 i)) (e i refl)
+gate-same (W5 i) w w′ e = ap (gate-of (W5 i)) (e i refl)
 gate-same (W6 i) w w′ e = refl
 gate-same (W7 k) w w′ e = refl
 gate-same (W8 k) w w′ e = refl
@@ -56,20 +58,20 @@ gate-same R4 w w′ e = refl
 gate-same R5 w w′ e = refl
 gate-same (R6 n) w w′ e = refl
 gate-same R7 w w′ e = refl
-gate-same writes w w′ e = refl
-gate-same reads w w′ e = refl
+gate-same Writer w w′ e = refl
+gate-same Reader w w′ e = refl
 
 gate-w5 : (top i : ℕ) (a b : Bool) → InRange top (cond a (wait i) (cond b (hold 1) (hold i)))
     → (cond a shut (cond b wide shut) ≡ shut)
-    ⊎ ((level top (cond a (wait i) (cond b (hold 1) (hold i))) ≡ 1) × On top 1)
+    ⊎ ((hold-level top (cond a (wait i) (cond b (hold 1) (hold i))) ≡ 1) × On top 1)
 gate-w5 top i true b r = inl refl
 gate-w5 top i false true r = inr (refl, r)
 gate-w5 top i false false r = inl refl
 
 -- who stands for a bit holds the whole machine
-pub gate-phase : (top : ℕ) (f : Place) (w : ℕ) → InRange top (phaseOf f w)
-    → (gateOf f w ≡ shut) ⊎ ((level top (phaseOf f w) ≡ 1) × On top 1)
-gate-phase top idle w r = inl refl
+pub gate-phase : (top : ℕ) (f : Place) (w : ℕ) → InRange top (phase-of f w)
+    → (gate-of f w ≡ shut) ⊎ ((hold-level top (phase-of f w) ≡ 1) × On top 1)
+gate-phase top Idle w r = inl refl
 gate-phase top (W1 i) w r = inl refl
 gate-phase top (W2 i) w r = inl refl
 gate-phase top (W3 i) w r = inl refl
@@ -96,32 +98,33 @@ gate-phase top R4 w r = inl refl
 gate-phase top R5 w r = inl refl
 gate-phase top (R6 n) w r = inl refl
 gate-phase top R7 w r = inl refl
-gate-phase top writes w r = inr (refl, r)
-gate-phase top reads w r = inl refl
+gate-phase top Writer w r = inr (refl, r)
+gate-phase top Reader w r = inl refl
 
 pub gate-at : (T : Tree) (s : Lock) (p : ℕ) (f : Place) → s .place p ≡ f
-    → gate T s p ≡ gateOf f (s .statuses (T .node p (at-level f)))
-gate-at T s p f e = ap (λ g. gateOf g (s .statuses (T .node p (at-level g)))) e
+    → gate T s p ≡ gate-of f (s .statuses (T .node p (status-level f)))
+gate-at T s p f e = ap (λ g. gate-of g (s .statuses (T .node p (status-level g)))) e
 
 pub gate-now : (T : Tree) (s : Lock) (p : ℕ) (f : Place)
-    → gate T (go s p f) p ≡ gateOf f (s .statuses (T .node p (at-level f)))
+    → gate T (go s p f) p ≡ gate-of f (s .statuses (T .node p (status-level f)))
 gate-now T s p f = gate-at T (go s p f) p f (upd-same (s .place) p f)
 
 pub gate-other : (T : Tree) (s : Lock) (p : ℕ) (f : Place) (q : ℕ) → q ≢ p → gate T (go s p f) q ≡ gate T s q
-gate-other T s p f q a = ap (λ g. gateOf g (s .statuses (T .node q (at-level g)))) (upd-other (s .place) p f q a)
+gate-other T s p f q a = ap (λ g. gate-of g (s .statuses (T .node q (status-level g)))) (upd-other (s .place) p f q a)
 
 -- tallies with the same values
-pub tallied : (P C TR : ℕ) (s s′ : Tally) → ((p : ℕ) → s .load p ≡ s′ .load p) → ((p : ℕ) → s .gate p ≡ s′ .gate p)
+pub tallied : (P C limit : ℕ) (s s′ : Tally) → ((p : ℕ) → s .load p ≡ s′ .load p) → ((p : ℕ) → s .gate p ≡ s′ .gate p)
     → ((c : ℕ) → s .arrives c ≡ s′ .arrives c) → ((c : ℕ) → s .departs c ≡ s′ .departs c)
-    → ((c : ℕ) → s .bit c ≡ s′ .bit c) → Counted P C TR s → Counted P C TR s′
-tallied P C TR s s′ a b c d e v = subst (Counted P C TR)
+    → ((c : ℕ) → s .bit c ≡ s′ .bit c) → Counted P C limit s → Counted P C limit s′
+tallied P C limit s s′ a b c d e v = subst (Counted P C limit)
     (λ i.
     record { load = λ p. a p i; gate = λ p. b p i; arrives = λ n. c n i; departs = λ n. d n i; bit = λ n. e n i })
     v
 
-module _ (P : ℕ) (L : Plan) (G : Lawful (L .tree)) (small : (q j : ℕ) → L .cap q j ≤ 1000) (cap : L .TR ≤ F)
-    (ranks : (p : ℕ) → On (L .tree .top p) 1 → On P p)
-    (root : (p q : ℕ) → On (L .tree .top p) 1 → On (L .tree .top q) 1 → L .tree .elem p 1 ≡ L .tree .elem q 1)
+module _ (P : ℕ) (L : Plan) (G : Lawful (L .tree)) (small : (q j : ℕ) → L .hand-over-limit q j ≤ 1000)
+    (threshold-fits : L .reader-threshold ≤ write-bit) (ranks : (p : ℕ) → On (L .tree .own-level p) 1 → On P p)
+    (root : (p q : ℕ) → On (L .tree .own-level p) 1 → On (L .tree .own-level q) 1
+    → L .tree .element p 1 ≡ L .tree .element q 1)
     (homes : (p : ℕ) → L .home p < L .counters) (s : Lock) (bit : ℕ → ℕ) (v : Safe P L s bit) where
   abbrev T : Tree
   T = L .tree
@@ -133,29 +136,30 @@ module _ (P : ℕ) (L : Plan) (G : Lawful (L .tree)) (small : (q j : ℕ) → L 
   inv = v .fine .queues
 
   -- while p holds the whole machine, all other gates are shut
-  alone : (p : ℕ) → On (T .top p) 1 → level (T .top p) (phase T s p) ≤ 1 → (q : ℕ) → q ≢ p → gate T s q ≡ shut
+  alone : (p : ℕ) → On (T .own-level p) 1 → hold-level (T .own-level p) (phase T s p) ≤ 1 → (q : ℕ) → q ≢ p
+      → gate T s q ≡ shut
   alone p o l q a = ⊎-elim
       (λ (z : gate T s q ≡ shut). z)
-      (λ (z : (level (T .top q) (phase T s q) ≡ 1) × On (T .top q) 1).
+      (λ (z : (hold-level (T .own-level q) (phase T s q) ≡ 1) × On (T .own-level q) 1).
       absurd (a (one-holder T G (view T s) inv q p 1 (z .1) o (omega arith) l (root q p (z .1) o))))
-      (gate-phase (T .top q) (s .place q) (s .statuses (T .node q (at-level (s .place q)))) (inv .range q))
+      (gate-phase (T .own-level q) (s .place q) (s .statuses (T .node q (status-level (s .place q)))) (inv .range q))
 
-  gate-status : (o i u : ℕ) → On (T .top o) i → level (T .top o) (phase T s o) ≤ suc i → (q : ℕ) → q ≢ o
-      → gate T (put-status s (T .node o i) u) q ≡ gate T s q
-  gate-status o i u on l q a = gate-same (s .place q) (s .statuses (T .node q (at-level (s .place q))))
-      (upd (s .statuses) (T .node o i) u (T .node q (at-level (s .place q))))
+  gate-status : (o i u : ℕ) → On (T .own-level o) i → hold-level (T .own-level o) (phase T s o) ≤ suc i → (q : ℕ)
+      → q ≢ o → gate T (put-status s (T .node o i) u) q ≡ gate T s q
+  gate-status o i u on l q a = gate-same (s .place q) (s .statuses (T .node q (status-level (s .place q))))
+      (upd (s .statuses) (T .node o i) u (T .node q (status-level (s .place q))))
       (λ j e.
       subst
-      (λ f. upd (s .statuses) (T .node o i) u (T .node q (at-level f)) ≡ s .statuses (T .node q (at-level f)))
+      (λ f. upd (s .statuses) (T .node o i) u (T .node q (status-level f)) ≡ s .statuses (T .node q (status-level f)))
       (sym e)
       (status-other L G small s (v .fine) o i u on l q j a (subst (Sound L (s .statuses) q) e (v .fine .sound q) .0)
-      (rw (phase-at T s q (W5 j) e) (w5-level (T .top q) j (s .statuses (T .node q j))))))
+      (rw (phase-at T s q (W5 j) e) (w5-level (T .own-level q) j (s .statuses (T .node q j))))))
 
   -- rows that leave loads and gates alone
-  still : (statuses : ℕ → ℕ) (p : ℕ) (g : Place) → gateOf g (statuses (T .node p (at-level g))) ≡ gate T s p
-      → loadOf (L .home p) g ≡ loadOf (L .home p) (s .place p)
-      → ((q : ℕ) → q ≢ p → gateOf (s .place q) (statuses (T .node q (at-level (s .place q)))) ≡ gate T s q)
-      → Counted P C (L .TR)
+  still : (statuses : ℕ → ℕ) (p : ℕ) (g : Place) → gate-of g (statuses (T .node p (status-level g))) ≡ gate T s p
+      → load-of (L .home p) g ≡ load-of (L .home p) (s .place p)
+      → ((q : ℕ) → q ≢ p → gate-of (s .place q) (statuses (T .node q (status-level (s .place q)))) ≡ gate T s q)
+      → Counted P C (L .reader-threshold)
       (tally L
       (record {
         place = upd (s .place) p g;
@@ -169,7 +173,7 @@ module _ (P : ℕ) (L : Plan) (G : Lawful (L .tree)) (small : (q j : ℕ) → L 
         next-turn = s .next-turn;
       })
       bit)
-  still statuses p g x y z = tallied P C (L .TR) (tally L s bit)
+  still statuses p g x y z = tallied P C (L .reader-threshold) (tally L s bit)
       (tally L
       (record {
         place = upd (s .place) p g;
@@ -184,11 +188,11 @@ module _ (P : ℕ) (L : Plan) (G : Lawful (L .tree)) (small : (q j : ℕ) → L 
       })
       bit)
       (split p
-      (λ q. loadOf (L .home q) (s .place q) ≡ loadOf (L .home q) (upd (s .place) p g q))
+      (λ q. load-of (L .home q) (s .place q) ≡ load-of (L .home q) (upd (s .place) p g q))
       (rw (upd-same (s .place) p g) (sym y))
       (λ q a. rw (upd-other (s .place) p g q a)))
       (split p
-      (λ q. gate T s q ≡ gateOf (upd (s .place) p g q) (statuses (T .node q (at-level (upd (s .place) p g q)))))
+      (λ q. gate T s q ≡ gate-of (upd (s .place) p g q) (statuses (T .node q (status-level (upd (s .place) p g q)))))
       (rw (upd-same (s .place) p g) (sym x))
       (λ q a. rw (upd-other (s .place) p g q a) (sym (z q a))))
       (λ c. refl)
@@ -197,44 +201,45 @@ module _ (P : ℕ) (L : Plan) (G : Lawful (L .tree)) (small : (q j : ℕ) → L 
       (v .counted)
 
   abbrev load : ℕ → Load
-  load p = loadOf (L .home p) (s .place p)
+  load p = load-of (L .home p) (s .place p)
 
   abbrev load′ : ℕ → Place → ℕ → Load
-  load′ p g q = loadOf (L .home q) (upd (s .place) p g q)
+  load′ p g q = load-of (L .home q) (upd (s .place) p g q)
 
   load-other : (p : ℕ) (g : Place) (q : ℕ) → q ≢ p → load′ p g q ≡ load q
-  load-other p g q a = ap (loadOf (L .home q)) (upd-other (s .place) p g q a)
+  load-other p g q a = ap (load-of (L .home q)) (upd-other (s .place) p g q a)
 
-  load-now : (p : ℕ) (g : Place) → load′ p g p ≡ loadOf (L .home p) g
-  load-now p g = ap (loadOf (L .home p)) (upd-same (s .place) p g)
+  load-now : (p : ℕ) (g : Place) → load′ p g p ≡ load-of (L .home p) g
+  load-now p g = ap (load-of (L .home p)) (upd-same (s .place) p g)
 
   -- what a rank carries is in the counter
   there-is : (p c : ℕ) → On P p → c < C → (l : Load) → load p ≡ l
-      → (F * bit c + tries l c + Counters.reads l c + clears l c ≤ s .arrives c) × (clears l c ≤ s .arrives c)
+      → (write-bit * bit c + tries l c + admits l c + clears l c ≤ s .arrives c) × (clears l c ≤ s .arrives c)
   there-is p c on lt l e =
       let o = v .counted .each c lt in
       let a = total-part P (λ p. tries (load p) c) p on in
-      let b = total-part P (λ p. Counters.reads (load p) c) p on in
+      let b = total-part P (λ p. admits (load p) c) p on in
       let d = total-part P (λ p. clears (load p) c) p on in
       rw (← e) (omega (arith, o .sum), omega (arith, o .sum))
 
   -- a shift from the place f to the place g
   shift : (p c : ℕ) (f g : Place) (arrives departs : ℕ → ℕ) → s .place p ≡ f
-      → Local (loadOf (L .home p) f) (loadOf (L .home p) g) c → ((d : ℕ) → d ≢ c → arrives d ≡ s .arrives d)
+      → Local (load-of (L .home p) f) (load-of (L .home p) g) c → ((d : ℕ) → d ≢ c → arrives d ≡ s .arrives d)
       → ((d : ℕ) → d ≢ c → departs d ≡ s .departs d) → Shift (tally L s bit) p c (load′ p g) arrives departs
   shift p c f g arrives departs e lc x y =
       record { others = load-other p g; local = rw (load-now p g, e) lc; arrive-other = x; depart-other = y }
 
   -- and the tally after it, where the gates are as they were
-  after : (p : ℕ) (g : Place) (arrives departs : ℕ → ℕ) → gateOf g (s .statuses (T .node p (at-level g))) ≡ gate T s p
-      → Counted P C (L .TR) (record {
+  after : (p : ℕ) (g : Place) (arrives departs : ℕ → ℕ)
+      → gate-of g (s .statuses (T .node p (status-level g))) ≡ gate T s p
+      → Counted P C (L .reader-threshold) (record {
         load = load′ p g;
         gate = gate T s;
         arrives = arrives;
         departs = departs;
         bit = bit;
       })
-      → Counted P C (L .TR)
+      → Counted P C (L .reader-threshold)
       (tally L
       (record {
         place = upd (s .place) p g;
@@ -248,7 +253,7 @@ module _ (P : ℕ) (L : Plan) (G : Lawful (L .tree)) (small : (q j : ℕ) → L 
         next-turn = s .next-turn;
       })
       bit)
-  after p g arrives departs x w = tallied P C (L .TR)
+  after p g arrives departs x w = tallied P C (L .reader-threshold)
       (record { load = load′ p g; gate = gate T s; arrives = arrives; departs = departs; bit = bit })
       (tally L
       (record {
@@ -265,7 +270,9 @@ module _ (P : ℕ) (L : Plan) (G : Lawful (L .tree)) (small : (q j : ℕ) → L 
       bit)
       (λ q. refl)
       (split p
-      (λ q. gate T s q ≡ gateOf (upd (s .place) p g q) (s .statuses (T .node q (at-level (upd (s .place) p g q)))))
+      (λ q.
+      gate T s q
+      ≡ gate-of (upd (s .place) p g q) (s .statuses (T .node q (status-level (upd (s .place) p g q)))))
       (rw (upd-same (s .place) p g) (sym x))
       (λ q a. rw (upd-other (s .place) p g q a)))
       (λ c. refl)
@@ -274,18 +281,18 @@ module _ (P : ℕ) (L : Plan) (G : Lawful (L .tree)) (small : (q j : ℕ) → L 
       w
 
   drain : (p c : ℕ) (f g : Place) (arrives departs : ℕ → ℕ) → On P p → s .place p ≡ f
-      → gateOf g (s .statuses (T .node p (at-level g))) ≡ gate T s p
-      → Local (loadOf (L .home p) f) (loadOf (L .home p) g) c → ((d : ℕ) → d ≢ c → arrives d ≡ s .arrives d)
+      → gate-of g (s .statuses (T .node p (status-level g))) ≡ gate T s p
+      → Local (load-of (L .home p) f) (load-of (L .home p) g) c → ((d : ℕ) → d ≢ c → arrives d ≡ s .arrives d)
       → ((d : ℕ) → d ≢ c → departs d ≡ s .departs d)
-      → arrives c + s .departs c + tries (loadOf (L .home p) f) c + Counters.reads (loadOf (L .home p) f) c
-      + clears (loadOf (L .home p) f) c
-      ≡ s .arrives c + departs c + tries (loadOf (L .home p) g) c + Counters.reads (loadOf (L .home p) g) c
-      + clears (loadOf (L .home p) g) c
-      → departs c + Counters.reads (loadOf (L .home p) g) c + clears (loadOf (L .home p) g) c
-      ≤ s .departs c + Counters.reads (loadOf (L .home p) f) c + clears (loadOf (L .home p) f) c
-      → departs c + Counters.reads (loadOf (L .home p) g) c ≤ s .departs c + Counters.reads (loadOf (L .home p) f) c
-      → ((d : ℕ) → loadOf (L .home p) g ≢ inside d)
-      → Counted P C (L .TR)
+      → arrives c + s .departs c + tries (load-of (L .home p) f) c + admits (load-of (L .home p) f) c
+      + clears (load-of (L .home p) f) c
+      ≡ s .arrives c + departs c + tries (load-of (L .home p) g) c + admits (load-of (L .home p) g) c
+      + clears (load-of (L .home p) g) c
+      → departs c + admits (load-of (L .home p) g) c + clears (load-of (L .home p) g) c
+      ≤ s .departs c + admits (load-of (L .home p) f) c + clears (load-of (L .home p) f) c
+      → departs c + admits (load-of (L .home p) g) c ≤ s .departs c + admits (load-of (L .home p) f) c
+      → ((d : ℕ) → load-of (L .home p) g ≢ inside d)
+      → Counted P C (L .reader-threshold)
       (tally L
       (record {
         place = upd (s .place) p g;
@@ -300,22 +307,22 @@ module _ (P : ℕ) (L : Plan) (G : Lawful (L .tree)) (small : (q j : ℕ) → L 
       })
       bit)
   drain p c f g arrives departs on e gt lc x y fl fa fr ou = after p g arrives departs gt
-      (drained P C (L .TR) (tally L s bit) (v .counted) p c on (load′ p g) arrives departs (record {
+      (drained P C (L .reader-threshold) (tally L s bit) (v .counted) p c on (load′ p g) arrives departs (record {
         shift = shift p c f g arrives departs e lc x y;
         flow = rw (load-now p g, e) fl;
         fall = rw (load-now p g, e) fa;
-        fall-reads = rw (load-now p g, e) fr;
+        fall-admits = rw (load-now p g, e) fr;
         outside = λ d z. ou d (sym (load-now p g) ∙ z);
       }))
 
   none-inside : (d : ℕ) → none ≢ inside d
   none-inside d e = let z : _≡_ {A = ℕ} 0 1 = cc in omega arith
 
-  count-R2 : (p : ℕ) → On P p → s .place p ≡ R2 → Counted P C (L .TR) (tally L (row L s p R2) bit)
+  count-R2 : (p : ℕ) → On P p → s .place p ≡ R2 → Counted P C (L .reader-threshold) (tally L (row L s p R2) bit)
   count-R2 p on e =
       let c = L .home p in
       let k = pick-same c 1 in
-      let h = there-is p c on (homes p) (trying c) (ap (loadOf c) e) in
+      let h = there-is p c on (homes p) (trying c) (ap (load-of c) e) in
       let u = upd-same (s .arrives) c (pred (s .arrives c)) in
       drain p c R2 R3 (upd (s .arrives) c (pred (s .arrives c))) (s .departs) on e (sym (gate-at T s p R2 e))
       (λ d ne. (sym (pick-other c 1 d (λ z. ne (sym z))), refl, refl))
@@ -326,7 +333,7 @@ module _ (P : ℕ) (L : Plan) (G : Lawful (L .tree)) (small : (q j : ℕ) → L 
       (omega arith)
       none-inside
 
-  count-R5 : (p : ℕ) → On P p → s .place p ≡ R5 → Counted P C (L .TR) (tally L (row L s p R5) bit)
+  count-R5 : (p : ℕ) → On P p → s .place p ≡ R5 → Counted P C (L .reader-threshold) (tally L (row L s p R5) bit)
   count-R5 p on e =
       let c = L .home p in
       let n = s .departs c in
@@ -341,11 +348,12 @@ module _ (P : ℕ) (L : Plan) (G : Lawful (L .tree)) (small : (q j : ℕ) → L 
       (omega arith)
       (λ d e. let z : _≡_ {A = ℕ} 0 1 = cc in omega arith)
 
-  count-R6 : (p n : ℕ) → On P p → s .place p ≡ R6 n → Counted P C (L .TR) (tally L (row L s p (R6 n)) bit)
+  count-R6 : (p n : ℕ) → On P p → s .place p ≡ R6 n
+      → Counted P C (L .reader-threshold) (tally L (row L s p (R6 n)) bit)
   count-R6 p n on e =
       let c = L .home p in
       let k = pick-same c n in
-      let h = there-is p c on (homes p) (carrying c n) (ap (loadOf c) e) in
+      let h = there-is p c on (homes p) (carrying c n) (ap (load-of c) e) in
       let u = upd-same (s .arrives) c (s .arrives c - n) in
       drain p c (R6 n) R3 (upd (s .arrives) c (s .arrives c - n)) (s .departs) on e (sym (gate-at T s p (R6 n) e))
       (λ d ne. (refl, sym (pick-other c n d (λ z. ne (sym z))), refl))
@@ -356,12 +364,12 @@ module _ (P : ℕ) (L : Plan) (G : Lawful (L .tree)) (small : (q j : ℕ) → L 
       (omega arith)
       none-inside
 
-  count-R7 : (p : ℕ) → On P p → s .place p ≡ R7 → Counted P C (L .TR) (tally L (row L s p R7) bit)
+  count-R7 : (p : ℕ) → On P p → s .place p ≡ R7 → Counted P C (L .reader-threshold) (tally L (row L s p R7) bit)
   count-R7 p on e =
       let c = L .home p in
       let k = pick-same c 1 in
       let u = upd-same (s .departs) c (suc (s .departs c)) in
-      drain p c R7 idle (s .arrives) (upd (s .departs) c (suc (s .departs c))) on e (sym (gate-at T s p R7 e))
+      drain p c R7 Idle (s .arrives) (upd (s .departs) c (suc (s .departs c))) on e (sym (gate-at T s p R7 e))
       (λ d ne. (refl, sym (pick-other c 1 d (λ z. ne (sym z))), refl))
       (λ d ne. refl)
       (λ d ne. upd-other (s .departs) c (suc (s .departs c)) d ne)
@@ -370,10 +378,10 @@ module _ (P : ℕ) (L : Plan) (G : Lawful (L .tree)) (small : (q j : ℕ) → L 
       (omega arith)
       none-inside
 
-  count-leave : (p : ℕ) → On P p → s .place p ≡ reads → Counted P C (L .TR) (tally L (go s p R7) bit)
+  count-leave : (p : ℕ) → On P p → s .place p ≡ Reader → Counted P C (L .reader-threshold) (tally L (go s p R7) bit)
   count-leave p on e =
       let c = L .home p in
-      drain p c reads R7 (s .arrives) (s .departs) on e (sym (gate-at T s p reads e))
+      drain p c Reader R7 (s .arrives) (s .departs) on e (sym (gate-at T s p Reader e))
       (λ d ne. (refl, refl, refl))
       (λ d ne. refl)
       (λ d ne. refl)
@@ -382,8 +390,8 @@ module _ (P : ℕ) (L : Plan) (G : Lawful (L .tree)) (small : (q j : ℕ) → L 
       (omega arith)
       (λ d e. let z : _≡_ {A = ℕ} 0 1 = cc in omega arith)
 
-  count-R1 : (p : ℕ) → On P p → s .place p ≡ R1 → Counted P C (L .TR) (tally L (row L s p R1) bit)
-  count-R1 p on e = by (ltb (s .arrives c) (L .TR)) refl
+  count-R1 : (p : ℕ) → On P p → s .place p ≡ R1 → Counted P C (L .reader-threshold) (tally L (row L s p R1) bit)
+  count-R1 p on e = by (ltb (s .arrives c) (L .reader-threshold)) refl
     where
       c : ℕ
       c = L .home p
@@ -397,11 +405,11 @@ module _ (P : ℕ) (L : Plan) (G : Lawful (L .tree)) (small : (q j : ℕ) → L 
       u : upd (s .arrives) (L .home p) (suc (s .arrives (L .home p))) (L .home p) ≡ suc (s .arrives (L .home p))
       u = upd-same (s .arrives) (L .home p) (suc (s .arrives (L .home p)))
 
-      by : (b : Bool) → ltb (s .arrives (L .home p)) (L .TR) ≡ b
-          → Counted P C (L .TR)
+      by : (b : Bool) → ltb (s .arrives (L .home p)) (L .reader-threshold) ≡ b
+          → Counted P C (L .reader-threshold)
           (tally L
           (record {
-            place = upd (s .place) p (cond b reads R2);
+            place = upd (s .place) p (cond b Reader R2);
             nexts = s .nexts;
             statuses = s .statuses;
             tails = s .tails;
@@ -412,19 +420,19 @@ module _ (P : ℕ) (L : Plan) (G : Lawful (L .tree)) (small : (q j : ℕ) → L 
             next-turn = s .next-turn;
           })
           bit)
-      by true z = after p reads (upd (s .arrives) (L .home p) (suc (s .arrives (L .home p)))) (s .departs)
+      by true z = after p Reader (upd (s .arrives) (L .home p) (suc (s .arrives (L .home p)))) (s .departs)
           (sym (gate-at T s p R1 e))
-          (entered P C (L .TR) cap (tally L s bit) (v .counted) p (L .home p) (homes p) on (load′ p reads)
-          (upd (s .arrives) (L .home p) (suc (s .arrives (L .home p)))) (record {
-            shift = shift p (L .home p) R1 reads (upd (s .arrives) (L .home p) (suc (s .arrives (L .home p))))
+          (entered P C (L .reader-threshold) threshold-fits (tally L s bit) (v .counted) p (L .home p) (homes p) on
+          (load′ p Reader) (upd (s .arrives) (L .home p) (suc (s .arrives (L .home p)))) (record {
+            shift = shift p (L .home p) R1 Reader (upd (s .arrives) (L .home p) (suc (s .arrives (L .home p))))
                 (s .departs) e
                 (λ d ne. (refl, pick-other (L .home p) 1 d (λ z. ne (sym z)), refl))
                 (λ d ne. upd-other (s .arrives) (L .home p) (suc (s .arrives (L .home p))) d ne)
                 (λ d ne. refl);
-            before = ap (loadOf (L .home p)) e;
-            after = load-now p reads;
+            before = ap (load-of (L .home p)) e;
+            after = load-now p Reader;
             word = u;
-            room = ltb-true (s .arrives (L .home p)) (L .TR) z;
+            room = ltb-true (s .arrives (L .home p)) (L .reader-threshold) z;
           }))
       by false z = drain p (L .home p) R1 R2 (upd (s .arrives) (L .home p) (suc (s .arrives (L .home p))))
           (s .departs) on e (sym (gate-at T s p R1 e))
@@ -436,7 +444,8 @@ module _ (P : ℕ) (L : Plan) (G : Lawful (L .tree)) (small : (q j : ℕ) → L 
           (omega arith)
           (λ d e. let z : _≡_ {A = ℕ} 0 1 = cc in omega arith)
 
-  count-U6 : (p n : ℕ) → On P p → s .place p ≡ U6 n → Counted P C (L .TR) (tally L (row L s p (U6 n)) bit)
+  count-U6 : (p n : ℕ) → On P p → s .place p ≡ U6 n
+      → Counted P C (L .reader-threshold) (tally L (row L s p (U6 n)) bit)
   count-U6 p n on e =
       let m = s .departs n in
       let k = pick-same n m in
@@ -451,20 +460,20 @@ module _ (P : ℕ) (L : Plan) (G : Lawful (L .tree)) (small : (q j : ℕ) → L 
       (λ d e. let z : _≡_ {A = ℕ} 0 1 = cc in omega arith)
 
   -- a writer's row at the counter k, from f to g
-  flip : (p k : ℕ) (f g : Place) (arrives bit′ : ℕ → ℕ) → On P p → On (T .top p) 1 → s .place p ≡ f
-      → level (T .top p) (phase T s p) ≤ 1 → Local (loadOf (L .home p) f) (loadOf (L .home p) g) k
+  flip : (p k : ℕ) (f g : Place) (arrives bit′ : ℕ → ℕ) → On P p → On (T .own-level p) 1 → s .place p ≡ f
+      → hold-level (T .own-level p) (phase T s p) ≤ 1 → Local (load-of (L .home p) f) (load-of (L .home p) g) k
       → ((d : ℕ) → d ≢ k → arrives d ≡ s .arrives d) → ((d : ℕ) → d ≢ k → bit′ d ≡ bit d) → bit′ k ≤ 1
-      → arrives k + F * bit k + s .departs k + tries (loadOf (L .home p) f) k
-      + Counters.reads (loadOf (L .home p) f) k + clears (loadOf (L .home p) f) k
-      ≡ s .arrives k + F * bit′ k + s .departs k + tries (loadOf (L .home p) g) k
-      + Counters.reads (loadOf (L .home p) g) k + clears (loadOf (L .home p) g) k
-      → Counters.reads (loadOf (L .home p) g) k + clears (loadOf (L .home p) g) k
-      ≤ Counters.reads (loadOf (L .home p) f) k + clears (loadOf (L .home p) f) k → (h : Gate)
-      → gateOf g (s .statuses (T .node p (at-level g))) ≡ h → ((c : ℕ) → c < C → Marks h c → bit′ c ≡ 1)
+      → arrives k + write-bit * bit k + s .departs k + tries (load-of (L .home p) f) k
+      + admits (load-of (L .home p) f) k + clears (load-of (L .home p) f) k
+      ≡ s .arrives k + write-bit * bit′ k + s .departs k + tries (load-of (L .home p) g) k
+      + admits (load-of (L .home p) g) k + clears (load-of (L .home p) g) k
+      → admits (load-of (L .home p) g) k + clears (load-of (L .home p) g) k
+      ≤ admits (load-of (L .home p) f) k + clears (load-of (L .home p) f) k → (h : Gate)
+      → gate-of g (s .statuses (T .node p (status-level g))) ≡ h → ((c : ℕ) → c < C → Marks h c → bit′ c ≡ 1)
       → ((c : ℕ) → c < C → bit′ c ≡ 1 → Marks h c)
       → ((c : ℕ) → c < C → Keeps h c → (q : ℕ) → On P q → load′ p g q ≢ inside c)
-      → ((j n : ℕ) → h ≡ reading j n → F + s .departs j + total P (λ q. Counters.reads (load′ p g q) j) ≤ n)
-      → Counted P C (L .TR)
+      → ((j n : ℕ) → h ≡ reading j n → write-bit + s .departs j + total P (λ q. admits (load′ p g q) j) ≤ n)
+      → Counted P C (L .reader-threshold)
       (tally L
       (record {
         place = upd (s .place) p g;
@@ -492,7 +501,7 @@ module _ (P : ℕ) (L : Plan) (G : Lawful (L .tree)) (small : (q j : ℕ) → L 
         next-turn = s .next-turn;
       } in
       let now : gate T (go s₁ p g) p ≡ h = gate-now T s₁ p g ∙ gh in
-      flipped P C (L .TR) (tally L s bit) (v .counted) p k on (tally L (go s₁ p g) bit′) (record {
+      flipped P C (L .reader-threshold) (tally L s bit) (v .counted) p k on (tally L (go s₁ p g) bit′) (record {
         shift = shift p k f g arrives (s .departs) e lc x (λ d ne. refl);
         bit-other = y;
         bit-small = bs;
@@ -507,8 +516,8 @@ module _ (P : ℕ) (L : Plan) (G : Lawful (L .tree)) (small : (q j : ℕ) → L 
       })
 
   -- the one writer marks each bit that stands
-  own-marks : (p : ℕ) → On (T .top p) 1 → level (T .top p) (phase T s p) ≤ 1 → (c : ℕ) → c < C → bit c ≡ 1
-      → Marks (gate T s p) c
+  own-marks : (p : ℕ) → On (T .own-level p) 1 → hold-level (T .own-level p) (phase T s p) ≤ 1 → (c : ℕ) → c < C
+      → bit c ≡ 1 → Marks (gate T s p) c
   own-marks p o lv c l z =
       let w = v .counted .each c l .stands z in
       split p
@@ -518,7 +527,7 @@ module _ (P : ℕ) (L : Plan) (G : Lawful (L .tree)) (small : (q j : ℕ) → L 
       (w .0)
       (w .1)
 
-  not-inside : (p : ℕ) (g : Place) (c : ℕ) → loadOf (L .home p) g ≡ none → ((q : ℕ) → On P q → load q ≢ inside c)
+  not-inside : (p : ℕ) (g : Place) (c : ℕ) → load-of (L .home p) g ≡ none → ((q : ℕ) → On P q → load q ≢ inside c)
       → (q : ℕ) → On P q → load′ p g q ≢ inside c
   not-inside p g c z h = split p
       (λ q. On P q → load′ p g q ≢ inside c)
@@ -526,18 +535,18 @@ module _ (P : ℕ) (L : Plan) (G : Lawful (L .tree)) (small : (q j : ℕ) → L 
       (λ q a on w. h q on (sym (load-other p g q a) ∙ w))
 
   -- rows W8, W9, U5, and W6 at level 1: no word changes
-  turn : (p : ℕ) (f g : Place) → On P p → On (T .top p) 1 → s .place p ≡ f → level (T .top p) (phase T s p) ≤ 1
-      → loadOf (L .home p) f ≡ none → loadOf (L .home p) g ≡ none → (h : Gate)
-      → gateOf g (s .statuses (T .node p (at-level g))) ≡ h → ((c : ℕ) → c < C → Marks h c → Marks (gate T s p) c)
-      → ((c : ℕ) → c < C → Marks (gate T s p) c → Marks h c)
+  turn : (p : ℕ) (f g : Place) → On P p → On (T .own-level p) 1 → s .place p ≡ f
+      → hold-level (T .own-level p) (phase T s p) ≤ 1 → load-of (L .home p) f ≡ none → load-of (L .home p) g ≡ none
+      → (h : Gate) → gate-of g (s .statuses (T .node p (status-level g))) ≡ h
+      → ((c : ℕ) → c < C → Marks h c → Marks (gate T s p) c) → ((c : ℕ) → c < C → Marks (gate T s p) c → Marks h c)
       → ((c : ℕ) → c < C → Keeps h c → (q : ℕ) → On P q → load q ≢ inside c)
-      → ((j n : ℕ) → h ≡ reading j n → F + s .departs j + total P (λ q. Counters.reads (load q) j) ≤ n)
-      → Counted P C (L .TR) (tally L (go s p g) bit)
+      → ((j n : ℕ) → h ≡ reading j n → write-bit + s .departs j + total P (λ q. admits (load q) j) ≤ n)
+      → Counted P C (L .reader-threshold) (tally L (go s p g) bit)
   turn p f g on o e lv lf lg h gh mk sd kp ss =
       let same : (q : ℕ) → load′ p g q ≡ load q =
       split p
       (λ q. load′ p g q ≡ load q)
-      (load-now p g ∙ (lg ∙ sym (ap (loadOf (L .home p)) e ∙ lf)))
+      (load-now p g ∙ (lg ∙ sym (ap (load-of (L .home p)) e ∙ lf)))
       (load-other p g) in
       ⊎-elim
       (λ (z : 0 < C).
@@ -554,22 +563,22 @@ module _ (P : ℕ) (L : Plan) (G : Lawful (L .tree)) (small : (q j : ℕ) → L 
       (λ c l w. sd c l (own-marks p o lv c l w))
       (λ c l w. not-inside p g c lg (kp c l w))
       (λ j n w.
-      let t : total P (λ q. Counters.reads (load′ p g q) j)
-      ≡ total P (λ q. Counters.reads (load q) j) =
+      let t : total P (λ q. admits (load′ p g q) j)
+      ≡ total P (λ q. admits (load q) j) =
       total-same P
-      (λ q. Counters.reads (load q) j)
-      (λ q. Counters.reads (load′ p g q) j)
-      (λ q _ _. ap (λ l. Counters.reads l j) (same q)) in
+      (λ q. admits (load q) j)
+      (λ q. admits (load′ p g q) j)
+      (λ q _ _. ap (λ l. admits l j) (same q)) in
       omega (arith, ss j n w)))
       (λ (z : C ≤ 0). absurd (omega (arith, homes p)))
       (cases-lt 0 C)
 
-  level-1 : (p : ℕ) (f : Place) → s .place p ≡ f → ((w : ℕ) → phaseOf f w ≡ hold 1)
-      → level (T .top p) (phase T s p) ≤ 1
-  level-1 p f e h = rw (phase-at T s p f e, h (s .statuses (T .node p (at-level f)))) (omega arith)
+  level-1 : (p : ℕ) (f : Place) → s .place p ≡ f → ((w : ℕ) → phase-of f w ≡ hold 1)
+      → hold-level (T .own-level p) (phase T s p) ≤ 1
+  level-1 p f e h = rw (phase-at T s p f e, h (s .statuses (T .node p (status-level f)))) (omega arith)
 
-  count-W8 : (p k : ℕ) → On P p → On (T .top p) 1 → k < C → s .place p ≡ W8 k
-      → Counted P C (L .TR) (tally L (row L s p (W8 k)) bit)
+  count-W8 : (p k : ℕ) → On P p → On (T .own-level p) 1 → k < C → s .place p ≡ W8 k
+      → Counted P C (L .reader-threshold) (tally L (row L s p (W8 k)) bit)
   count-W8 p k on o l e =
       let g = gate-at T s p (W8 k) e in
       turn p (W8 k) (W9 k (s .arrives k)) on o e (level-1 p (W8 k) e (λ w. refl)) refl refl (reading k (s .arrives k))
@@ -582,12 +591,12 @@ module _ (P : ℕ) (L : Plan) (G : Lawful (L .tree)) (small : (q j : ℕ) → L 
       let b : s .arrives k ≡ n = cc in
       let z : bit k ≡ 1 = v .counted .marked p k l (rw g tt) in
       subst
-      (λ j. F + s .departs j + total P (λ q. Counters.reads (load q) j) ≤ n)
+      (λ j. write-bit + s .departs j + total P (λ q. admits (load q) j) ≤ n)
       a
       (omega (arith, v .counted .each k l .sum)))
 
-  count-W9 : (p k n : ℕ) → On P p → On (T .top p) 1 → k < C → s .place p ≡ W9 k n
-      → Counted P C (L .TR) (tally L (row L s p (W9 k n)) bit)
+  count-W9 : (p k n : ℕ) → On P p → On (T .own-level p) 1 → k < C → s .place p ≡ W9 k n
+      → Counted P C (L .reader-threshold) (tally L (row L s p (W9 k n)) bit)
   count-W9 p k n on o l e = by (eqb n (2 ^ 62 + s .departs k)) (ltb (suc k) C) refl refl
     where
       g : gate T s p ≡ reading k n
@@ -602,19 +611,19 @@ module _ (P : ℕ) (L : Plan) (G : Lawful (L .tree)) (small : (q j : ℕ) → L 
           subst
           (λ c. (q : ℕ) → On P q → load q ≢ inside c)
           (sym y)
-          (nobody-in P C (L .TR) (tally L s bit) (v .counted) p k n g z))
+          (nobody-in P C (L .reader-threshold) (tally L s bit) (v .counted) p k n g z))
           (λ (y : c ≡ k → ⊥). old c m (omega arith))
           (cases-eq c k)
 
       by : (a b : Bool) → eqb n (2 ^ 62 + s .departs k) ≡ a → ltb (suc k) C ≡ b
-          → Counted P C (L .TR) (tally L (go s p (cond a (cond b (W8 (suc k)) writes) (W8 k))) bit)
+          → Counted P C (L .reader-threshold) (tally L (go s p (cond a (cond b (W8 (suc k)) Writer) (W8 k))) bit)
       by true true x y = turn p (W9 k n) (W8 (suc k)) on o e (level-1 p (W9 k n) e (λ w. refl)) refl refl
           (checking (suc k)) refl
           (λ c m w. rw g tt)
           (λ c m w. tt)
           (λ c m w. new (eqb-true n (2 ^ 62 + s .departs k) x) c m (omega arith))
           (λ j i w. absurd (let z : _≡_ {A = ℕ} 0 1 = cc in omega arith))
-      by true false x y = turn p (W9 k n) writes on o e (level-1 p (W9 k n) e (λ w. refl)) refl refl wide refl
+      by true false x y = turn p (W9 k n) Writer on o e (level-1 p (W9 k n) e (λ w. refl)) refl refl wide refl
           (λ c m w. rw g tt)
           (λ c m w. tt)
           (λ c m w. new (eqb-true n (2 ^ 62 + s .departs k) x) c m (omega (arith, ltb-false (suc k) C y)))
@@ -625,14 +634,14 @@ module _ (P : ℕ) (L : Plan) (G : Lawful (L .tree)) (small : (q j : ℕ) → L 
           (λ c m w. old c m w)
           (λ j i w. absurd (let z : _≡_ {A = ℕ} 0 1 = cc in omega arith))
 
-  count-W7 : (p k : ℕ) → On P p → On (T .top p) 1 → k < C → s .place p ≡ W7 k
-      → Counted P C (L .TR) (tally L (row L s p (W7 k)) (upd bit k 1))
+  count-W7 : (p k : ℕ) → On P p → On (T .own-level p) 1 → k < C → s .place p ≡ W7 k
+      → Counted P C (L .reader-threshold) (tally L (row L s p (W7 k)) (upd bit k 1))
   count-W7 p k on o l e = by (ltb (suc k) C) refl
     where
       g : gate T s p ≡ raising k
       g = gate-at T s p (W7 k) e
 
-      lv : level (T .top p) (phase T s p) ≤ 1
+      lv : hold-level (T .own-level p) (phase T s p) ≤ 1
       lv = level-1 p (W7 k) e (λ w. refl)
 
       down : bit k ≡ 0
@@ -659,10 +668,10 @@ module _ (P : ℕ) (L : Plan) (G : Lawful (L .tree)) (small : (q j : ℕ) → L 
           omega arith)
           (cases-eq c k)
 
-      at : (q : Place) (h : Gate) → loadOf (L .home p) q ≡ none → gateOf q (s .statuses (T .node p (at-level q))) ≡ h
-          → ((c : ℕ) → c < C → Marks h c → c < suc k) → ((c : ℕ) → c < C → c < suc k → Marks h c)
-          → ((c : ℕ) → Keeps h c → ⊥) → ((j n : ℕ) → h ≡ reading j n → ⊥)
-          → Counted P C (L .TR)
+      at : (q : Place) (h : Gate) → load-of (L .home p) q ≡ none
+          → gate-of q (s .statuses (T .node p (status-level q))) ≡ h → ((c : ℕ) → c < C → Marks h c → c < suc k)
+          → ((c : ℕ) → c < C → c < suc k → Marks h c) → ((c : ℕ) → Keeps h c → ⊥) → ((j n : ℕ) → h ≡ reading j n → ⊥)
+          → Counted P C (L .reader-threshold)
           (tally L
           (record {
             place = upd (s .place) p q;
@@ -691,7 +700,7 @@ module _ (P : ℕ) (L : Plan) (G : Lawful (L .tree)) (small : (q j : ℕ) → L 
           (λ j n w. absurd (d j n w))
 
       by : (b : Bool) → ltb (suc k) C ≡ b
-          → Counted P C (L .TR)
+          → Counted P C (L .reader-threshold)
           (tally L
           (record {
             place = upd (s .place) p (cond b (W7 (suc k)) (W8 0));
@@ -716,21 +725,21 @@ module _ (P : ℕ) (L : Plan) (G : Lawful (L .tree)) (small : (q j : ℕ) → L 
           (λ c w. omega arith)
           (λ j n e. let z : _≡_ {A = ℕ} 0 1 = cc in omega arith)
 
-  count-U7 : (p k n : ℕ) → On P p → On (T .top p) 1 → k < C → s .place p ≡ U7 k n
-      → Counted P C (L .TR) (tally L (row L s p (U7 k n)) (upd bit k 0))
+  count-U7 : (p k n : ℕ) → On P p → On (T .own-level p) 1 → k < C → s .place p ≡ U7 k n
+      → Counted P C (L .reader-threshold) (tally L (row L s p (U7 k n)) (upd bit k 0))
   count-U7 p k n on o l e = by (ltb (suc k) C) refl
     where
       g : gate T s p ≡ lowering k
       g = gate-at T s p (U7 k n) e
 
-      lv : level (T .top p) (phase T s p) ≤ 1
+      lv : hold-level (T .own-level p) (phase T s p) ≤ 1
       lv = level-1 p (U7 k n) e (λ w. refl)
 
       stood : bit k ≡ 1
       stood = v .counted .marked p k l (rw g (omega arith))
 
-      has : (F * bit k + 0 + 0 + pick k n k ≤ s .arrives k) × (pick k n k ≤ s .arrives k)
-      has = there-is p k on l (clearing k n) (ap (loadOf (L .home p)) e)
+      has : (write-bit * bit k + 0 + 0 + pick k n k ≤ s .arrives k) × (pick k n k ≤ s .arrives k)
+      has = there-is p k on l (clearing k n) (ap (load-of (L .home p)) e)
 
       low : upd bit k 0 k ≡ 0
       low = upd-same bit k 0
@@ -746,10 +755,10 @@ module _ (P : ℕ) (L : Plan) (G : Lawful (L .tree)) (small : (q j : ℕ) → L 
           omega arith)
           (cases-eq c k)
 
-      at : (q : Place) (h : Gate) → loadOf (L .home p) q ≡ none → gateOf q (s .statuses (T .node p (at-level q))) ≡ h
-          → ((c : ℕ) → c < C → Marks h c → suc k ≤ c) → ((c : ℕ) → c < C → suc k ≤ c → Marks h c)
-          → ((c : ℕ) → Keeps h c → ⊥) → ((j n : ℕ) → h ≡ reading j n → ⊥)
-          → Counted P C (L .TR)
+      at : (q : Place) (h : Gate) → load-of (L .home p) q ≡ none
+          → gate-of q (s .statuses (T .node p (status-level q))) ≡ h → ((c : ℕ) → c < C → Marks h c → suc k ≤ c)
+          → ((c : ℕ) → c < C → suc k ≤ c → Marks h c) → ((c : ℕ) → Keeps h c → ⊥) → ((j n : ℕ) → h ≡ reading j n → ⊥)
+          → Counted P C (L .reader-threshold)
           (tally L
           (record {
             place = upd (s .place) p q;
@@ -787,7 +796,7 @@ module _ (P : ℕ) (L : Plan) (G : Lawful (L .tree)) (small : (q j : ℕ) → L 
           (λ j n w. absurd (d j n w))
 
       by : (b : Bool) → ltb (suc k) C ≡ b
-          → Counted P C (L .TR)
+          → Counted P C (L .reader-threshold)
           (tally L
           (record {
             place = upd (s .place) p (cond b (U6 (suc k)) (U8 1));
@@ -814,37 +823,42 @@ module _ (P : ℕ) (L : Plan) (G : Lawful (L .tree)) (small : (q j : ℕ) → L 
 
   -- rows that leave the rank's load and gate as they were
   abbrev Plain : ℕ → Place → Place → Type 0
-  Plain p f g = (gateOf g (s .statuses (T .node p (at-level g))) ≡ gateOf f (s .statuses (T .node p (at-level f))))
-      × (loadOf (L .home p) g ≡ loadOf (L .home p) f)
+  Plain p f g = (gate-of g (s .statuses (T .node p (status-level g)))
+      ≡ gate-of f (s .statuses (T .node p (status-level f))))
+      × (load-of (L .home p) g ≡ load-of (L .home p) f)
 
-  plain : (p : ℕ) (f g : Place) → s .place p ≡ f → Plain p f g → Counted P C (L .TR) (tally L (go s p g) bit)
+  plain : (p : ℕ) (f g : Place) → s .place p ≡ f → Plain p f g
+      → Counted P C (L .reader-threshold) (tally L (go s p g) bit)
   plain p f g e h =
-      still (s .statuses) p g (h .0 ∙ sym (gate-at T s p f e)) (h .1 ∙ sym (ap (loadOf (L .home p)) e)) (λ q a. refl)
+      still (s .statuses) p g (h .0 ∙ sym (gate-at T s p f e)) (h .1 ∙ sym (ap (load-of (L .home p)) e)) (λ q a. refl)
 
-  owned : (p i u : ℕ) (f g : Place) → s .place p ≡ f → On (T .top p) i → level (T .top p) (phase T s p) ≤ suc i
-      → gateOf g (upd (s .statuses) (T .node p i) u (T .node p (at-level g)))
-      ≡ gateOf f (s .statuses (T .node p (at-level f))) → loadOf (L .home p) g ≡ loadOf (L .home p) f
-      → Counted P C (L .TR) (tally L (go (put-status s (T .node p i) u) p g) bit)
+  owned : (p i u : ℕ) (f g : Place) → s .place p ≡ f → On (T .own-level p) i
+      → hold-level (T .own-level p) (phase T s p) ≤ suc i
+      → gate-of g (upd (s .statuses) (T .node p i) u (T .node p (status-level g)))
+      ≡ gate-of f (s .statuses (T .node p (status-level f))) → load-of (L .home p) g ≡ load-of (L .home p) f
+      → Counted P C (L .reader-threshold) (tally L (go (put-status s (T .node p i) u) p g) bit)
   owned p i u f g e on lv x y = still (upd (s .statuses) (T .node p i) u) p g (x ∙ sym (gate-at T s p f e))
-      (y ∙ sym (ap (loadOf (L .home p)) e))
+      (y ∙ sym (ap (load-of (L .home p)) e))
       (λ q a. gate-status p i u on lv q a)
 
-  count-W6 : (p i : ℕ) → On P p → s .place p ≡ W6 i → Counted P C (L .TR) (tally L (row L s p (W6 i)) bit)
+  count-W6 : (p i : ℕ) → On P p → s .place p ≡ W6 i
+      → Counted P C (L .reader-threshold) (tally L (row L s p (W6 i)) bit)
   count-W6 p i onp e = by (leb 2 i) refl
     where
       was : phase T s p ≡ hold i
       was = phase-at T s p (W6 i) e
 
-      on : On (T .top p) i
-      on = subst (InRange (T .top p)) was (inv .range p)
+      on : On (T .own-level p) i
+      on = subst (InRange (T .own-level p)) was (inv .range p)
 
-      lv : level (T .top p) (phase T s p) ≡ i
-      lv = ap (level (T .top p)) was
+      lv : hold-level (T .own-level p) (phase T s p) ≡ i
+      lv = ap (hold-level (T .own-level p)) was
 
       by : (b : Bool) → leb 2 i ≡ b
-          → Counted P C (L .TR) (tally L (go (put-status s (T .node p i) 0) p (cond b (W1 (pred i)) (W7 0))) bit)
+          → Counted P C (L .reader-threshold)
+          (tally L (go (put-status s (T .node p i) 0) p (cond b (W1 (pred i)) (W7 0))) bit)
       by true z = owned p i 0 (W6 i) (W1 (pred i)) e on (omega (arith, lv)) refl refl
-      by false z = tallied P C (L .TR) (tally L (go s p (W7 0)) bit)
+      by false z = tallied P C (L .reader-threshold) (tally L (go s p (W7 0)) bit)
           (tally L (go (put-status s (T .node p i) 0) p (W7 0)) bit)
           (λ q. refl)
           (split p
@@ -864,16 +878,17 @@ module _ (P : ℕ) (L : Plan) (G : Lawful (L .tree)) (small : (q j : ℕ) → L 
           (λ c m w. absurd w)
           (λ j n e. absurd (let z : _≡_ {A = ℕ} 0 1 = cc in omega arith)))
 
-  count-W5 : (p i : ℕ) → s .place p ≡ W5 i → Counted P C (L .TR) (tally L (row L s p (W5 i)) bit)
-  count-W5 p i e = by (eqb w WAIT) (leb w 1000) (eqb w (tell i)) refl refl
+  count-W5 : (p i : ℕ) → s .place p ≡ W5 i → Counted P C (L .reader-threshold) (tally L (row L s p (W5 i)) bit)
+  count-W5 p i e = by (eqb w WAIT) (leb w 1000) (eqb w (told-status i)) refl refl
     where
       w : ℕ
       w = s .statuses (T .node p i)
 
       by : (a b c : Bool) → eqb w WAIT ≡ a → leb w 1000 ≡ b
-          → Counted P C (L .TR) (tally L (cond a s (cond b (go s p writes) (cond c (go s p (W6 i)) s))) bit)
+          → Counted P C (L .reader-threshold)
+          (tally L (cond a s (cond b (go s p Writer) (cond c (go s p (W6 i)) s))) bit)
       by true b c x y = v .counted
-      by false true c x y = plain p (W5 i) writes e (rw (x, y) (refl, refl))
+      by false true c x y = plain p (W5 i) Writer e (rw (x, y) (refl, refl))
       by false false true x y = plain p (W5 i) (W6 i) e (rw (x, y) (refl, refl))
       by false false false x y = v .counted
 
@@ -886,52 +901,53 @@ module _ (P : ℕ) (L : Plan) (G : Lawful (L .tree)) (small : (q j : ℕ) → L 
     s₁ = put-status s (T .node (n .rank) i) u
 
     at-r : s .place (n .rank) ≡ W5 i
-    at-r = only-W5 (s .place (n .rank)) (s .statuses (T .node (n .rank) (at-level (s .place (n .rank))))) i (n .waits)
+    at-r = only-W5 (s .place (n .rank)) (s .statuses (T .node (n .rank) (status-level (s .place (n .rank))))) i
+        (n .waits)
 
     r≢p : n .rank ≢ p
     r≢p z = subst (λ f. Waits f i) (sym (n .waits) ∙ (ap (phase T s) z ∙ was)) refl
 
-    lv : level (T .top (n .rank)) (phase T s (n .rank)) ≤ suc i
+    lv : hold-level (T .own-level (n .rank)) (phase T s (n .rank)) ≤ suc i
     lv = rw (n .waits) (omega arith)
 
     gate-p : gate T (go s₁ p (done L s p i)) p ≡ shut
     gate-p = gate-now T s₁ p (done L s p i)
-        ∙ cond-both (eqb i (T .top p)) idle (U8 (suc i))
-        (λ g. (w : ℕ) → gateOf g w ≡ shut)
+        ∙ cond-both (eqb i (T .own-level p)) Idle (U8 (suc i))
+        (λ g. (w : ℕ) → gate-of g w ≡ shut)
         (λ _ w. refl)
         (λ _ w. refl)
-        (s₁ .statuses (T .node p (at-level (done L s p i))))
+        (s₁ .statuses (T .node p (status-level (done L s p i))))
 
-    gate-r : gate T (go s₁ p (done L s p i)) (n .rank) ≡ gateOf (W5 i) u
+    gate-r : gate T (go s₁ p (done L s p i)) (n .rank) ≡ gate-of (W5 i) u
     gate-r = gate-other T s₁ p (done L s p i) (n .rank) r≢p
-        ∙ (gate-at T s₁ (n .rank) (W5 i) at-r ∙ ap (gateOf (W5 i)) (upd-same (s .statuses) (T .node (n .rank) i) u))
+        ∙ (gate-at T s₁ (n .rank) (W5 i) at-r ∙ ap (gate-of (W5 i)) (upd-same (s .statuses) (T .node (n .rank) i) u))
 
     gate-o : (q : ℕ) → q ≢ p → q ≢ n .rank → gate T (go s₁ p (done L s p i)) q ≡ gate T s q
     gate-o q a b = gate-other T s₁ p (done L s p i) q a ∙ gate-status (n .rank) i u (n .on) lv q b
 
-    loads : loadOf (L .home p) f ≡ none → (q : ℕ) → load q ≡ load′ p (done L s p i) q
+    loads : load-of (L .home p) f ≡ none → (q : ℕ) → load q ≡ load′ p (done L s p i) q
     loads z = split p
         (λ q. load q ≡ load′ p (done L s p i) q)
-        (ap (loadOf (L .home p)) e
+        (ap (load-of (L .home p)) e
         ∙ (z
-        ∙ (cond-both (eqb i (T .top p)) idle (U8 (suc i))
-        (λ g. none ≡ loadOf (L .home p) g)
+        ∙ (cond-both (eqb i (T .own-level p)) Idle (U8 (suc i))
+        (λ g. none ≡ load-of (L .home p) g)
         (λ _. refl)
         (λ _. refl) ∙ sym (load-now p (done L s p i)))))
         (λ q a. sym (load-other p (done L s p i) q a))
 
-  count-U3 : (p i t n : ℕ) → On (T .top p) 1 → s .place p ≡ U3 i t n
-      → Counted P C (L .TR) (tally L (row L s p (U3 i t n)) bit)
+  count-U3 : (p i t n : ℕ) → On (T .own-level p) 1 → s .place p ≡ U3 i t n
+      → Counted P C (L .reader-threshold) (tally L (row L s p (U3 i t n)) bit)
   count-U3 p i t u o e =
       let was : phase T s p ≡ give 1 i t = phase-at T s p (U3 i t u) e in
       let m = n p 1 i t u (U3 i t u) e was in
       let so = subst (Sound L (s .statuses) p) e (v .fine .sound p) in
-      let wd : gateOf (W5 i) u ≡ wide =
+      let wd : gate-of (W5 i) u ≡ wide =
       rw (ne-eqb u WAIT (omega (arith, so .0, small i)), le-leb u 1000 (omega (arith, so .0, small i))) in
       subst
-      (λ y. Counted P C (L .TR) (tally L (go (put-status s y u) p (done L s p i)) bit))
+      (λ y. Counted P C (L .reader-threshold) (tally L (go (put-status s y u) p (done L s p i)) bit))
       (sym (m .target))
-      (tallied P C (L .TR)
+      (tallied P C (L .reader-threshold)
       (record {
         load = load;
         gate = gate T (go (put-status s (T .node (m .rank) i) u) p (done L s p i));
@@ -945,7 +961,7 @@ module _ (P : ℕ) (L : Plan) (G : Lawful (L .tree)) (small : (q j : ℕ) → L 
       (λ c. refl)
       (λ c. refl)
       (λ c. refl)
-      (traded P C (L .TR) (tally L s bit) (v .counted) p (m .rank)
+      (traded P C (L .reader-threshold) (tally L s bit) (v .counted) p (m .rank)
       (gate T (go (put-status s (T .node (m .rank) i) u) p (done L s p i))) (record {
         was = gate-at T s p (U3 i t u) e;
         alone = alone p o (rw was (omega arith));
@@ -954,26 +970,28 @@ module _ (P : ℕ) (L : Plan) (G : Lawful (L .tree)) (small : (q j : ℕ) → L 
         gates = gate-o p 1 i t u (U3 i t u) e was;
       })))
 
-  count-U9 : (p i t : ℕ) → s .place p ≡ U9 i t → Counted P C (L .TR) (tally L (row L s p (U9 i t)) bit)
+  count-U9 : (p i t : ℕ) → s .place p ≡ U9 i t → Counted P C (L .reader-threshold) (tally L (row L s p (U9 i t)) bit)
   count-U9 p i t e =
       let was : phase T s p ≡ give i i t = phase-at T s p (U9 i t) e in
-      let u = tell i in
+      let u = told-status i in
       let m = n p i i t u (U9 i t) e was in
-      let on : (1 ≤ i) × (i ≤ i) × (i ≤ T .top p) = subst (InRange (T .top p)) was (inv .range p) in
-      let big : (WAIT < tell i) × (1000 < tell i) = tell-big i in
-      let told : gateOf (W5 i) u ≡ shut = rw (ne-eqb u WAIT (omega arith), lt-leb u 1000 (omega arith)) in
-      let lr : level (T .top (m .rank)) (phase T s (m .rank)) ≡ suc i = ap (level (T .top (m .rank))) (m .waits) in
+      let on : (1 ≤ i) × (i ≤ i) × (i ≤ T .own-level p) = subst (InRange (T .own-level p)) was (inv .range p) in
+      let big : (WAIT < told-status i) × (1000 < told-status i) = told-large i in
+      let told : gate-of (W5 i) u ≡ shut = rw (ne-eqb u WAIT (omega arith), lt-leb u 1000 (omega arith)) in
+      let lr : hold-level (T .own-level (m .rank)) (phase T s (m .rank)) ≡ suc i =
+      ap (hold-level (T .own-level (m .rank))) (m .waits) in
       let before : gate T s (m .rank) ≡ shut =
       ⊎-elim
       (λ (z : gate T s (m .rank) ≡ shut). z)
-      (λ (z : (level (T .top (m .rank)) (phase T s (m .rank)) ≡ 1) × On (T .top (m .rank)) 1).
+      (λ (z : (hold-level (T .own-level (m .rank)) (phase T s (m .rank)) ≡ 1) × On (T .own-level (m .rank)) 1).
       absurd (omega arith))
-      (gate-phase (T .top (m .rank)) (s .place (m .rank))
-      (s .statuses (T .node (m .rank) (at-level (s .place (m .rank))))) (inv .range (m .rank))) in
+      (gate-phase (T .own-level (m .rank)) (s .place (m .rank))
+      (s .statuses (T .node (m .rank) (status-level (s .place (m .rank))))) (inv .range (m .rank))) in
       subst
-      (λ y. Counted P C (L .TR) (tally L (go (put-status s y u) p (done L s p i)) bit))
+      (λ y. Counted P C (L .reader-threshold) (tally L (go (put-status s y u) p (done L s p i)) bit))
       (sym (m .target))
-      (tallied P C (L .TR) (tally L s bit) (tally L (go (put-status s (T .node (m .rank) i) u) p (done L s p i)) bit)
+      (tallied P C (L .reader-threshold) (tally L s bit)
+      (tally L (go (put-status s (T .node (m .rank) i) u) p (done L s p i)) bit)
       (loads p i i t u (U9 i t) e was refl)
       (split₂ p (m .rank)
       (λ q. gate T s q ≡ gate T (go (put-status s (T .node (m .rank) i) u) p (done L s p i)) q)
@@ -989,14 +1007,14 @@ module _ (P : ℕ) (L : Plan) (G : Lawful (L .tree)) (small : (q j : ℕ) → L 
   two : (p : ℕ) (f : Place) (b : Bool) (g h : Place) → Plain p f g → Plain p f h → Plain p f (cond b g h)
   two p f b g h x y = cond-both b g h (Plain p f) (λ _. x) (λ _. y)
 
-  count-U5 : (p n : ℕ) → On P p → On (T .top p) 1 → s .place p ≡ U5 n
-      → Counted P C (L .TR) (tally L (row L s p (U5 n)) bit)
-  count-U5 p n onp o e = by (eqb (s .nexts (T .node p 1)) 0) (ltb n (L .cap p 1))
+  count-U5 : (p n : ℕ) → On P p → On (T .own-level p) 1 → s .place p ≡ U5 n
+      → Counted P C (L .reader-threshold) (tally L (row L s p (U5 n)) bit)
+  count-U5 p n onp o e = by (eqb (s .nexts (T .node p 1)) 0) (ltb n (L .hand-over-limit p 1))
     where
       g : gate T s p ≡ wide
       g = gate-at T s p (U5 n) e
 
-      lower : Counted P C (L .TR) (tally L (go s p (U6 0)) bit)
+      lower : Counted P C (L .reader-threshold) (tally L (go s p (U6 0)) bit)
       lower = turn p (U5 n) (U6 0) onp o e (level-1 p (U5 n) e (λ w. refl)) refl refl (lowering 0) refl
           (λ c m w. rw g tt)
           (λ c m w. omega arith)
@@ -1004,24 +1022,25 @@ module _ (P : ℕ) (L : Plan) (G : Lawful (L .tree)) (small : (q j : ℕ) → L 
           (λ j n e. absurd (let z : _≡_ {A = ℕ} 0 1 = cc in omega arith))
 
       by : (a b : Bool)
-          → Counted P C (L .TR)
+          → Counted P C (L .reader-threshold)
           (tally L (go s p (cond a (U6 0) (cond b (U3 1 (s .nexts (T .node p 1)) (suc n)) (U6 0)))) bit)
       by true b = lower
       by false true = plain p (U5 n) (U3 1 (s .nexts (T .node p 1)) (suc n)) e (refl, refl)
       by false false = lower
 
-  count-U10 : (p i : ℕ) → s .place p ≡ U10 i → Counted P C (L .TR) (tally L (row L s p (U10 i)) bit)
-  count-U10 p i e = by (eqb (s .tails (T .elem p i)) (T .node p i))
+  count-U10 : (p i : ℕ) → s .place p ≡ U10 i → Counted P C (L .reader-threshold) (tally L (row L s p (U10 i)) bit)
+  count-U10 p i e = by (eqb (s .tails (T .element p i)) (T .node p i))
     where
       by : (b : Bool)
-          → Counted P C (L .TR) (tally L (cond b (go (free s (T .elem p i)) p (done L s p i)) (go s p (U8 i))) bit)
+          → Counted P C (L .reader-threshold)
+          (tally L (cond b (go (free s (T .element p i)) p (done L s p i)) (go s p (U8 i))) bit)
       by true = plain p (U10 i) (done L s p i) e
-          (two p (U10 i) (eqb i (T .top p)) idle (U8 (suc i)) (refl, refl) (refl, refl))
+          (two p (U10 i) (eqb i (T .own-level p)) Idle (U8 (suc i)) (refl, refl) (refl, refl))
       by false = plain p (U10 i) (U8 i) e (refl, refl)
 
   -- the bits after a row
   abbrev pub bits : Place → ℕ → ℕ
-  bits idle = bit
+  bits Idle = bit
   bits (W1 i) = bit
   bits (W2 i) = bit
   bits (W3 i) = bit
@@ -1048,19 +1067,21 @@ module _ (P : ℕ) (L : Plan) (G : Lawful (L .tree)) (small : (q j : ℕ) → L 
   bits R5 = bit
   bits (R6 n) = bit
   bits R7 = bit
-  bits writes = bit
-  bits reads = bit
+  bits Writer = bit
+  bits Reader = bit
 
-  pub count-row : (p : ℕ) → On P p → On (T .top p) 1 → (f : Place) → s .place p ≡ f
-      → Counted P C (L .TR) (tally L (row L s p f) (bits f))
-  count-row p on o idle e = v .counted
+  pub count-row : (p : ℕ) → On P p → On (T .own-level p) 1 → (f : Place) → s .place p ≡ f
+      → Counted P C (L .reader-threshold) (tally L (row L s p f) (bits f))
+  count-row p on o Idle e = v .counted
   count-row p on o (W1 i) e = plain p (W1 i) (W2 i) e (refl, refl)
   count-row p on o (W2 i) e =
       let was = phase-at T s p (W2 i) e in
-      owned p i WAIT (W2 i) (W3 i) e (subst (InRange (T .top p)) was (inv .range p)) (rw was (omega arith)) refl refl
+      owned p i WAIT (W2 i) (W3 i) e (subst (InRange (T .own-level p)) was (inv .range p)) (rw was (omega arith)) refl
+      refl
   count-row p on o (W3 i) e = plain p (W3 i)
-      (cond (eqb (s .tails (T .elem p i)) 0) (W6 i) (W4 i (s .tails (T .elem p i)))) e
-      (two p (W3 i) (eqb (s .tails (T .elem p i)) 0) (W6 i) (W4 i (s .tails (T .elem p i))) (refl, refl) (refl, refl))
+      (cond (eqb (s .tails (T .element p i)) 0) (W6 i) (W4 i (s .tails (T .element p i)))) e
+      (two p (W3 i) (eqb (s .tails (T .element p i)) 0) (W6 i) (W4 i (s .tails (T .element p i))) (refl, refl)
+      (refl, refl))
   count-row p on o (W4 i t) e =
       let so = subst (Sound L (s .statuses) p) e (v .fine .sound p) in
       plain p (W4 i t) (W5 i) e (rw (eq-eqb (s .statuses (T .node p i)) WAIT (so .0)) (refl, refl))
@@ -1074,12 +1095,14 @@ module _ (P : ℕ) (L : Plan) (G : Lawful (L .tree)) (small : (q j : ℕ) → L 
       let up = two p (U2 i n) (leb i 2) U4 (U1 (pred i)) (refl, refl) (refl, refl) in
       plain p (U2 i n)
       (cond (eqb (s .nexts (T .node p i)) 0) (cond (leb i 2) U4 (U1 (pred i)))
-      (cond (ltb n (L .cap p i)) (U3 i (s .nexts (T .node p i)) (suc n)) (cond (leb i 2) U4 (U1 (pred i)))))
+      (cond (ltb n (L .hand-over-limit p i)) (U3 i (s .nexts (T .node p i)) (suc n))
+      (cond (leb i 2) U4 (U1 (pred i)))))
       e
       (two p (U2 i n) (eqb (s .nexts (T .node p i)) 0) (cond (leb i 2) U4 (U1 (pred i)))
-      (cond (ltb n (L .cap p i)) (U3 i (s .nexts (T .node p i)) (suc n)) (cond (leb i 2) U4 (U1 (pred i))))
+      (cond (ltb n (L .hand-over-limit p i)) (U3 i (s .nexts (T .node p i)) (suc n))
+      (cond (leb i 2) U4 (U1 (pred i))))
       up
-      (two p (U2 i n) (ltb n (L .cap p i)) (U3 i (s .nexts (T .node p i)) (suc n))
+      (two p (U2 i n) (ltb n (L .hand-over-limit p i)) (U3 i (s .nexts (T .node p i)) (suc n))
       (cond (leb i 2) U4 (U1 (pred i))) (refl, refl) up))
   count-row p on o (U3 i t n) e = count-U3 p i t n o e
   count-row p on o U4 e = plain p U4 (U5 (s .statuses (T .node p 1))) e (refl, refl)
@@ -1095,16 +1118,19 @@ module _ (P : ℕ) (L : Plan) (G : Lawful (L .tree)) (small : (q j : ℕ) → L 
   count-row p on o R1 e = count-R1 p on e
   count-row p on o R2 e = count-R2 p on e
   count-row p on o R3 e = plain p R3
-      (cond (ltb (s .arrives (L .home p)) (L .TR)) R1 (cond (leb (2 ^ 62) (s .arrives (L .home p))) R3 R4)) e
-      (two p R3 (ltb (s .arrives (L .home p)) (L .TR)) R1 (cond (leb (2 ^ 62) (s .arrives (L .home p))) R3 R4)
-      (refl, refl) (two p R3 (leb (2 ^ 62) (s .arrives (L .home p))) R3 R4 (refl, refl) (refl, refl)))
-  count-row p on o R4 e = plain p R4 (cond (eqb (s .tails (T .elem p 1)) 0) R5 R3) e
-      (two p R4 (eqb (s .tails (T .elem p 1)) 0) R5 R3 (refl, refl) (refl, refl))
+      (cond (ltb (s .arrives (L .home p)) (L .reader-threshold)) R1
+      (cond (leb (2 ^ 62) (s .arrives (L .home p))) R3 R4))
+      e
+      (two p R3 (ltb (s .arrives (L .home p)) (L .reader-threshold)) R1
+      (cond (leb (2 ^ 62) (s .arrives (L .home p))) R3 R4) (refl, refl)
+      (two p R3 (leb (2 ^ 62) (s .arrives (L .home p))) R3 R4 (refl, refl) (refl, refl)))
+  count-row p on o R4 e = plain p R4 (cond (eqb (s .tails (T .element p 1)) 0) R5 R3) e
+      (two p R4 (eqb (s .tails (T .element p 1)) 0) R5 R3 (refl, refl) (refl, refl))
   count-row p on o R5 e = count-R5 p on e
   count-row p on o (R6 n) e = count-R6 p n on e
   count-row p on o R7 e = count-R7 p on e
-  count-row p on o writes e = v .counted
-  count-row p on o reads e = v .counted
+  count-row p on o Writer e = v .counted
+  count-row p on o Reader e = v .counted
 
   -- the counter's number of the new place is in range
   within-row : (p : ℕ) (g : Place) → Within C g → (q : ℕ) → Within C (upd (s .place) p g q)
@@ -1114,29 +1140,30 @@ module _ (P : ℕ) (L : Plan) (G : Lawful (L .tree)) (small : (q j : ℕ) → L 
       (λ q a. rw (upd-other (s .place) p g q a) (v .within q))
 
   within-W5 : (p i : ℕ) (a b c : Bool) → (q : ℕ)
-      → Within C ((cond a s (cond b (go s p writes) (cond c (go s p (W6 i)) s))) .place q)
+      → Within C ((cond a s (cond b (go s p Writer) (cond c (go s p (W6 i)) s))) .place q)
   within-W5 p i true b c = v .within
-  within-W5 p i false true c = within-row p writes tt
+  within-W5 p i false true c = within-row p Writer tt
   within-W5 p i false false true = within-row p (W6 i) tt
   within-W5 p i false false false = v .within
 
   within-U10 : (p i : ℕ) (b : Bool) → (q : ℕ)
-      → Within C ((cond b (go (free s (T .elem p i)) p (done L s p i)) (go s p (U8 i))) .place q)
-  within-U10 p i true =
-      within-row p (done L s p i) (cond-both (eqb i (T .top p)) (idle) (U8 (suc i)) (Within C) (λ _. tt) (λ _. tt))
+      → Within C ((cond b (go (free s (T .element p i)) p (done L s p i)) (go s p (U8 i))) .place q)
+  within-U10 p i true = within-row p (done L s p i)
+      (cond-both (eqb i (T .own-level p)) (Idle) (U8 (suc i)) (Within C) (λ _. tt) (λ _. tt))
   within-U10 p i false = within-row p (U8 i) tt
 
   within-all : (p : ℕ) (f : Place) → s .place p ≡ f → (q : ℕ) → Within C ((row L s p f) .place q)
-  within-all p idle e = v .within
+  within-all p Idle e = v .within
   within-all p (W1 i) e = within-row p (W2 i) (tt)
   within-all p (W2 i) e = within-row p (W3 i) (tt)
-  within-all p (W3 i) e = within-row p (cond (eqb (s .tails (T .elem p i)) 0) (W6 i) (W4 i (s .tails (T .elem p i))))
-      (cond-both (eqb (s .tails (T .elem p i)) 0) (W6 i) (W4 i (s .tails (T .elem p i))) (Within C)
+  within-all p (W3 i) e = within-row p
+      (cond (eqb (s .tails (T .element p i)) 0) (W6 i) (W4 i (s .tails (T .element p i))))
+      (cond-both (eqb (s .tails (T .element p i)) 0) (W6 i) (W4 i (s .tails (T .element p i))) (Within C)
       (λ _. tt)
       (λ _. tt))
   within-all p (W4 i t) e = within-row p (W5 i) (tt)
   within-all p (W5 i) e = within-W5 p i (eqb (s .statuses (T .node p i)) WAIT) (leb (s .statuses (T .node p i)) 1000)
-      (eqb (s .statuses (T .node p i)) (tell i))
+      (eqb (s .statuses (T .node p i)) (told-status i))
   within-all p (W6 i) e = within-row p (cond (leb 2 i) (W1 (pred i)) (W7 0))
       (cond-both (leb 2 i) (W1 (pred i)) (W7 0) (Within C) (λ _. tt) (λ _. omega (arith, homes p)))
   within-all p (W7 k) e = within-row p (next L s p k (W8 0) W7)
@@ -1144,34 +1171,36 @@ module _ (P : ℕ) (L : Plan) (G : Lawful (L .tree)) (small : (q j : ℕ) → L 
       (λ z. ltb-true (suc k) C z)
       (λ _. omega (arith, homes p)))
   within-all p (W8 k) e = within-row p (W9 k (s .arrives k)) (subst (Within C) e (v .within p))
-  within-all p (W9 k n) e = within-row p (cond (eqb n (2 ^ 62 + s .departs k)) (next L s p k writes W8) (W8 k))
-      (cond-both (eqb n (2 ^ 62 + s .departs k)) (next L s p k writes W8) (W8 k) (Within C)
-      (λ _. cond-both (ltb (suc k) C) (W8 (suc k)) (writes) (Within C) (λ z. ltb-true (suc k) C z) (λ _. tt))
+  within-all p (W9 k n) e = within-row p (cond (eqb n (2 ^ 62 + s .departs k)) (next L s p k Writer W8) (W8 k))
+      (cond-both (eqb n (2 ^ 62 + s .departs k)) (next L s p k Writer W8) (W8 k) (Within C)
+      (λ _. cond-both (ltb (suc k) C) (W8 (suc k)) (Writer) (Within C) (λ z. ltb-true (suc k) C z) (λ _. tt))
       (λ _. subst (Within C) e (v .within p)))
   within-all p (U1 i) e = within-row p (U2 i (s .statuses (T .node p i))) (tt)
   within-all p (U2 i n) e = within-row p
       (cond (eqb (s .nexts (T .node p i)) 0) (cond (leb i 2) U4 (U1 (pred i)))
-      (cond (ltb n (L .cap p i)) (U3 i (s .nexts (T .node p i)) (suc n)) (cond (leb i 2) U4 (U1 (pred i)))))
+      (cond (ltb n (L .hand-over-limit p i)) (U3 i (s .nexts (T .node p i)) (suc n))
+      (cond (leb i 2) U4 (U1 (pred i)))))
       (cond-both (eqb (s .nexts (T .node p i)) 0) (cond (leb i 2) U4 (U1 (pred i)))
-      (cond (ltb n (L .cap p i)) (U3 i (s .nexts (T .node p i)) (suc n)) (cond (leb i 2) U4 (U1 (pred i))))
+      (cond (ltb n (L .hand-over-limit p i)) (U3 i (s .nexts (T .node p i)) (suc n))
+      (cond (leb i 2) U4 (U1 (pred i))))
       (Within C)
       (λ _. cond-both (leb i 2) (U4) (U1 (pred i)) (Within C) (λ _. tt) (λ _. tt))
       (λ _.
-      cond-both (ltb n (L .cap p i)) (U3 i (s .nexts (T .node p i)) (suc n))
+      cond-both (ltb n (L .hand-over-limit p i)) (U3 i (s .nexts (T .node p i)) (suc n))
       (cond (leb i 2) U4 (U1 (pred i))) (Within C)
       (λ _. tt)
       (λ _. cond-both (leb i 2) (U4) (U1 (pred i)) (Within C) (λ _. tt) (λ _. tt))))
-  within-all p (U3 i t n) e =
-      within-row p (done L s p i) (cond-both (eqb i (T .top p)) (idle) (U8 (suc i)) (Within C) (λ _. tt) (λ _. tt))
+  within-all p (U3 i t n) e = within-row p (done L s p i)
+      (cond-both (eqb i (T .own-level p)) (Idle) (U8 (suc i)) (Within C) (λ _. tt) (λ _. tt))
   within-all p U4 e = within-row p (U5 (s .statuses (T .node p 1))) (tt)
   within-all p (U5 n) e = within-row p
       (cond (eqb (s .nexts (T .node p 1)) 0) (U6 0)
-      (cond (ltb n (L .cap p 1)) (U3 1 (s .nexts (T .node p 1)) (suc n)) (U6 0)))
+      (cond (ltb n (L .hand-over-limit p 1)) (U3 1 (s .nexts (T .node p 1)) (suc n)) (U6 0)))
       (cond-both (eqb (s .nexts (T .node p 1)) 0) (U6 0)
-      (cond (ltb n (L .cap p 1)) (U3 1 (s .nexts (T .node p 1)) (suc n)) (U6 0)) (Within C)
+      (cond (ltb n (L .hand-over-limit p 1)) (U3 1 (s .nexts (T .node p 1)) (suc n)) (U6 0)) (Within C)
       (λ _. omega (arith, homes p))
       (λ _.
-      cond-both (ltb n (L .cap p 1)) (U3 1 (s .nexts (T .node p 1)) (suc n)) (U6 0) (Within C)
+      cond-both (ltb n (L .hand-over-limit p 1)) (U3 1 (s .nexts (T .node p 1)) (suc n)) (U6 0) (Within C)
       (λ _. tt)
       (λ _. omega (arith, homes p))))
   within-all p (U6 k) e = within-row p (U7 k (s .departs k)) (subst (Within C) e (v .within p))
@@ -1181,28 +1210,29 @@ module _ (P : ℕ) (L : Plan) (G : Lawful (L .tree)) (small : (q j : ℕ) → L 
       (cond-both (eqb (s .nexts (T .node p i)) 0) (U10 i) (U9 i (s .nexts (T .node p i))) (Within C)
       (λ _. tt)
       (λ _. tt))
-  within-all p (U9 i t) e =
-      within-row p (done L s p i) (cond-both (eqb i (T .top p)) (idle) (U8 (suc i)) (Within C) (λ _. tt) (λ _. tt))
-  within-all p (U10 i) e = within-U10 p i (eqb (s .tails (T .elem p i)) (T .node p i))
-  within-all p R1 e = within-row p (cond (ltb (s .arrives (L .home p)) (L .TR)) reads R2)
-      (cond-both (ltb (s .arrives (L .home p)) (L .TR)) (reads) (R2) (Within C) (λ _. tt) (λ _. tt))
+  within-all p (U9 i t) e = within-row p (done L s p i)
+      (cond-both (eqb i (T .own-level p)) (Idle) (U8 (suc i)) (Within C) (λ _. tt) (λ _. tt))
+  within-all p (U10 i) e = within-U10 p i (eqb (s .tails (T .element p i)) (T .node p i))
+  within-all p R1 e = within-row p (cond (ltb (s .arrives (L .home p)) (L .reader-threshold)) Reader R2)
+      (cond-both (ltb (s .arrives (L .home p)) (L .reader-threshold)) (Reader) (R2) (Within C) (λ _. tt) (λ _. tt))
   within-all p R2 e = within-row p (R3) (tt)
   within-all p R3 e = within-row p
-      (cond (ltb (s .arrives (L .home p)) (L .TR)) R1 (cond (leb (2 ^ 62) (s .arrives (L .home p))) R3 R4))
-      (cond-both (ltb (s .arrives (L .home p)) (L .TR)) (R1) (cond (leb (2 ^ 62) (s .arrives (L .home p))) R3 R4)
-      (Within C)
+      (cond (ltb (s .arrives (L .home p)) (L .reader-threshold)) R1
+      (cond (leb (2 ^ 62) (s .arrives (L .home p))) R3 R4))
+      (cond-both (ltb (s .arrives (L .home p)) (L .reader-threshold)) (R1)
+      (cond (leb (2 ^ 62) (s .arrives (L .home p))) R3 R4) (Within C)
       (λ _. tt)
       (λ _. cond-both (leb (2 ^ 62) (s .arrives (L .home p))) (R3) (R4) (Within C) (λ _. tt) (λ _. tt)))
-  within-all p R4 e = within-row p (cond (eqb (s .tails (T .elem p 1)) 0) R5 R3)
-      (cond-both (eqb (s .tails (T .elem p 1)) 0) (R5) (R3) (Within C) (λ _. tt) (λ _. tt))
+  within-all p R4 e = within-row p (cond (eqb (s .tails (T .element p 1)) 0) R5 R3)
+      (cond-both (eqb (s .tails (T .element p 1)) 0) (R5) (R3) (Within C) (λ _. tt) (λ _. tt))
   within-all p R5 e = within-row p (R6 (s .departs (L .home p))) (tt)
   within-all p (R6 n) e = within-row p (R3) (tt)
-  within-all p R7 e = within-row p (idle) (tt)
-  within-all p writes e = v .within
-  within-all p reads e = v .within
+  within-all p R7 e = within-row p (Idle) (tt)
+  within-all p Writer e = v .within
+  within-all p Reader e = v .within
 
   -- every row keeps the lock safe
-  pub safe-row : (p : ℕ) → On (T .top p) 1 → (f : Place) → s .place p ≡ f → Safe P L (row L s p f) (bits f)
+  pub safe-row : (p : ℕ) → On (T .own-level p) 1 → (f : Place) → s .place p ≡ f → Safe P L (row L s p f) (bits f)
   safe-row p o f e =
       record {
         fine = fine-row L G small s (v .fine) p o f e;
@@ -1210,34 +1240,35 @@ module _ (P : ℕ) (L : Plan) (G : Lawful (L .tree)) (small : (q j : ℕ) → L 
         within = within-all p f e;
       }
 
-  pub safe-ask-write : (p : ℕ) → On (T .top p) 1 → s .place p ≡ idle → Safe P L (go s p (W1 (T .top p))) bit
+  pub safe-ask-write : (p : ℕ) → On (T .own-level p) 1 → s .place p ≡ Idle
+      → Safe P L (go s p (W1 (T .own-level p))) bit
   safe-ask-write p o e =
       record {
         fine = fine-ask-write L G small s (v .fine) p o e;
-        counted = plain p idle (W1 (T .top p)) e (refl, refl);
-        within = within-row p (W1 (T .top p)) tt;
+        counted = plain p Idle (W1 (T .own-level p)) e (refl, refl);
+        within = within-row p (W1 (T .own-level p)) tt;
       }
 
-  pub safe-ask-read : (p : ℕ) → s .place p ≡ idle → Safe P L (go s p R1) bit
+  pub safe-ask-read : (p : ℕ) → s .place p ≡ Idle → Safe P L (go s p R1) bit
   safe-ask-read p e =
       record {
         fine = fine-ask-read L G small s (v .fine) p e;
-        counted = plain p idle R1 e (refl, refl);
+        counted = plain p Idle R1 e (refl, refl);
         within = within-row p R1 tt;
       }
 
-  pub safe-leave-write : (p : ℕ) → s .place p ≡ writes
-      → Safe P L (go s p (cond (leb (T .top p) 1) U4 (U1 (T .top p)))) bit
+  pub safe-leave-write : (p : ℕ) → s .place p ≡ Writer
+      → Safe P L (go s p (cond (leb (T .own-level p) 1) U4 (U1 (T .own-level p)))) bit
   safe-leave-write p e =
       record {
         fine = fine-leave-write L G small s (v .fine) p e;
-        counted = plain p writes (cond (leb (T .top p) 1) U4 (U1 (T .top p))) e
-            (two p writes (leb (T .top p) 1) U4 (U1 (T .top p)) (refl, refl) (refl, refl));
-        within = within-row p (cond (leb (T .top p) 1) U4 (U1 (T .top p)))
-            (cond-both (leb (T .top p) 1) U4 (U1 (T .top p)) (Within C) (λ _. tt) (λ _. tt));
+        counted = plain p Writer (cond (leb (T .own-level p) 1) U4 (U1 (T .own-level p))) e
+            (two p Writer (leb (T .own-level p) 1) U4 (U1 (T .own-level p)) (refl, refl) (refl, refl));
+        within = within-row p (cond (leb (T .own-level p) 1) U4 (U1 (T .own-level p)))
+            (cond-both (leb (T .own-level p) 1) U4 (U1 (T .own-level p)) (Within C) (λ _. tt) (λ _. tt));
       }
 
-  pub safe-leave-read : (p : ℕ) → On P p → s .place p ≡ reads → Safe P L (go s p R7) bit
+  pub safe-leave-read : (p : ℕ) → On P p → s .place p ≡ Reader → Safe P L (go s p R7) bit
   safe-leave-read p on e =
       record {
         fine = fine-leave-read L G small s (v .fine) p e;
@@ -1246,9 +1277,9 @@ module _ (P : ℕ) (L : Plan) (G : Lawful (L .tree)) (small : (q j : ℕ) → L 
       }
 
   -- a writer is in: no reader is
-  pub no-reader : (p q : ℕ) → On (T .top q) 1 → s .place p ≡ writes → s .place q ≡ reads → ⊥
-  no-reader p q o a b = v .counted .kept p (L .home q) (homes q) (rw (gate-at T s p writes a) tt) q (ranks q o)
-      (ap (loadOf (L .home q)) b)
+  pub no-reader : (p q : ℕ) → On (T .own-level q) 1 → s .place p ≡ Writer → s .place q ≡ Reader → ⊥
+  no-reader p q o a b = v .counted .kept p (L .home q) (homes q) (rw (gate-at T s p Writer a) tt) q (ranks q o)
+      (ap (load-of (L .home q)) b)
 
 pub safe-start : (P : ℕ) (L : Plan) → Safe P L fresh-lock (λ c. 0)
 safe-start P L =
@@ -1269,27 +1300,40 @@ pub safe-job : (P : ℕ) (L : Plan) → Sensible P L → (s : Lock) → Jobs P L
 safe-job P L g s start = ((λ c. 0), safe-start P L)
 safe-job P L g s (stepped s₀ p o j) =
     let w = safe-job P L g s₀ j in (
-      bits P L (g .tree) (g .small) (g .cap) (g .ranks) (g .root) (g .homes) s₀ (w .0) (w .1) (s₀ .place p),
-      safe-row P L (g .tree) (g .small) (g .cap) (g .ranks) (g .root) (g .homes) s₀ (w .0) (w .1) p o (s₀ .place p)
-          refl,
+      bits P L (g .tree) (g .small) (g .threshold-fits) (g .ranks) (g .root) (g .homes) s₀ (w .0) (w .1) (s₀ .place p),
+      safe-row P L (g .tree) (g .small) (g .threshold-fits) (g .ranks) (g .root) (g .homes) s₀ (w .0) (w .1) p o
+          (s₀ .place p) refl,
     )
 safe-job P L g s (asked-write s₀ p o e j) =
-    let w = safe-job P L g s₀ j in
-    (w .0, safe-ask-write P L (g .tree) (g .small) (g .cap) (g .ranks) (g .root) (g .homes) s₀ (w .0) (w .1) p o e)
+    let w = safe-job P L g s₀ j in (
+      w .0,
+      safe-ask-write P L (g .tree) (g .small) (g .threshold-fits) (g .ranks) (g .root) (g .homes) s₀ (w .0) (w .1) p o
+          e,
+    )
 safe-job P L g s (asked-read s₀ p e j) =
-    let w = safe-job P L g s₀ j in
-    (w .0, safe-ask-read P L (g .tree) (g .small) (g .cap) (g .ranks) (g .root) (g .homes) s₀ (w .0) (w .1) p e)
+    let w = safe-job P L g s₀ j in (
+      w .0,
+      safe-ask-read P L (g .tree) (g .small) (g .threshold-fits) (g .ranks) (g .root) (g .homes) s₀ (w .0) (w .1) p e,
+    )
 safe-job P L g s (left-write s₀ p e j) =
-    let w = safe-job P L g s₀ j in
-    (w .0, safe-leave-write P L (g .tree) (g .small) (g .cap) (g .ranks) (g .root) (g .homes) s₀ (w .0) (w .1) p e)
+    let w = safe-job P L g s₀ j in (
+      w .0,
+      safe-leave-write P L (g .tree) (g .small) (g .threshold-fits) (g .ranks) (g .root) (g .homes) s₀ (w .0) (w .1) p
+          e,
+    )
 safe-job P L g s (left-read s₀ p on e j) =
-    let w = safe-job P L g s₀ j in
-    (w .0, safe-leave-read P L (g .tree) (g .small) (g .cap) (g .ranks) (g .root) (g .homes) s₀ (w .0) (w .1) p on e)
+    let w = safe-job P L g s₀ j in (
+      w .0,
+      safe-leave-read P L (g .tree) (g .small) (g .threshold-fits) (g .ranks) (g .root) (g .homes) s₀ (w .0) (w .1) p
+          on e,
+    )
 
 -- exclusion, after any job
 pub exclusion : Exclusion
 exclusion P L g s j p q o o′ a =
     let w = safe-job P L g s j in (
       (λ b. one-writer L (g .tree) (g .small) s (w .1 .fine) p q o o′ (g .root p q o o′) a b),
-      (λ b. no-reader P L (g .tree) (g .small) (g .cap) (g .ranks) (g .root) (g .homes) s (w .0) (w .1) p q o′ a b),
+      (λ b.
+          no-reader P L (g .tree) (g .small) (g .threshold-fits) (g .ranks) (g .root) (g .homes) s (w .0) (w .1) p q
+          o′ a b),
     )

@@ -7,14 +7,14 @@ use lib.Dec.{eqb, leb, ltb}
 use native.Mathlib.Omega.{arith}
 use Rattle.std.proofs.shelf.Tests.{cases-eq, cases-lt, eq-eqb, ne-eqb}
 use Rattle.std.proofs.shelf.Ways.{tells}
-use Rattle.queues.specs.Machine.{Tree, Lawful, On, Phase, out, fresh, clean, ready, link, wait, hold, give, level}
+use Rattle.queues.specs.Machine.{Tree, Lawful, On, Phase, out, fresh, clean, ready, link, wait, hold, give, hold-level}
 use Rattle.queues.specs.Machine.{InRange, Waits, State, Inv}
-use Rattle.queues.specs.Counters.{total, tries, clears, Marks}
-use Rattle.queues.specs.Counters
-use Rattle.queues.specs.Rows.{Place, idle, W1, W2, W3, W4, W5, W6, W7, W8, W9, U1, U2, U3, U4, U5, U6, U7, U8, U9}
-use Rattle.queues.specs.Rows.{U10, R1, R2, R3, R4, R5, R6, R7, writes, reads, WAIT, tell, Plan, Lock, upd, phaseOf}
-use Rattle.queues.specs.Rows.{at-level, phase, view, Sound, Fine, go, row}
-use Rattle.queues.specs.Whole.{loadOf, Within, Safe, tally}
+use Rattle.queues.specs.Counters.{total, tries, admits, clears, Marks}
+use Rattle.queues.specs.Rows.{Place, Idle, W1, W2, W3, W4, W5, W6, W7, W8, W9, U1, U2, U3, U4, U5, U6, U7, U8, U9}
+use Rattle.queues.specs.Rows.{U10, R1, R2, R3, R4, R5, R6, R7, Writer, Reader, WAIT, told-status, Plan, Lock, upd}
+use Rattle.queues.specs.Rows.{phase-of}
+use Rattle.queues.specs.Rows.{status-level, phase, view, Sound, Fine, go, row}
+use Rattle.queues.specs.Whole.{load-of, Within, Safe, tally}
 use Rattle.queues.specs.Way.{tag, Move, Step, Leave, Accepted, act, Apt}
 use Rattle.queues.proofs.Base.{one-holder}
 use Rattle.queues.proofs.Split.{split}
@@ -51,7 +51,7 @@ Odd f = (tag f ≡ 9) ⊎ ((tag f ≡ 19) ⊎ (tag f ≡ 27))
 
 -- the number of a writer: how many moves lie ahead on the longest way without a repeat
 abbrev pub number : ℕ → ℕ → Place → ℕ
-number N C idle = 0
+number N C Idle = 0
 number N C (W1 i) = (2 * C + 4 * N + 1) + 3 * C + 6 * pred i + 6
 number N C (W2 i) = (2 * C + 4 * N + 1) + 3 * C + 6 * pred i + 5
 number N C (W3 i) = (2 * C + 4 * N + 1) + 3 * C + 6 * pred i + 4
@@ -78,43 +78,45 @@ number N C R4 = 0
 number N C R5 = 0
 number N C (R6 n) = 0
 number N C R7 = 0
-number N C writes = (2 * C + 4 * N + 1)
-number N C reads = 0
+number N C Writer = (2 * C + 4 * N + 1)
+number N C Reader = 0
 
-falls : (L : Plan) (s : Lock) (p : ℕ) (f : Place) → 0 < L .counters → On (L .tree .top p) 1 → Able L s p f
-    → number (L .tree .top p) (L .counters) (row L s p f .place p) < number (L .tree .top p) (L .counters) f
+falls : (L : Plan) (s : Lock) (p : ℕ) (f : Place) → 0 < L .counters → On (L .tree .own-level p) 1 → Able L s p f
+    → number (L .tree .own-level p) (L .counters) (row L s p f .place p)
+    < number (L .tree .own-level p) (L .counters) f
 unfolding upd
 falls L s p f c o a = grind (arith, tells)
 
-able-or : (L : Plan) (s : Lock) (p : ℕ) (f : Place) → ((q j : ℕ) → L .cap q j ≤ 1000)
-    → InRange (L .tree .top p) (phaseOf f (s .statuses (L .tree .node p (at-level f)))) → Sound L (s .statuses) p f
-    → Within (L .counters) f → NoWait (phaseOf f (s .statuses (L .tree .node p (at-level f))))
-    → 0 < number (L .tree .top p) (L .counters) f → Able L s p f ⊎ Odd f
+able-or : (L : Plan) (s : Lock) (p : ℕ) (f : Place) → ((q j : ℕ) → L .hand-over-limit q j ≤ 1000)
+    → InRange (L .tree .own-level p) (phase-of f (s .statuses (L .tree .node p (status-level f))))
+    → Sound L (s .statuses) p f → Within (L .counters) f
+    → NoWait (phase-of f (s .statuses (L .tree .node p (status-level f))))
+    → 0 < number (L .tree .own-level p) (L .counters) f → Able L s p f ⊎ Odd f
 able-or L s p f c r so w n a = grind (arith, tells)
 
-odd-is : (f : Place) → Odd f → (f ≡ writes) ⊎ (((k : ℕ) × (n : ℕ) × (f ≡ W9 k n)) ⊎ ((i : ℕ) × (f ≡ U10 i)))
+odd-is : (f : Place) → Odd f → (f ≡ Writer) ⊎ (((k : ℕ) × (n : ℕ) × (f ≡ W9 k n)) ⊎ ((i : ℕ) × (f ≡ U10 i)))
 odd-is f o = grind (arith, tells)
 
 able-quiet : (L : Plan) (s : Lock) (p : ℕ) (f : Place) → Able L s p f → Busy f × (stage-1 (row L s p f .place p) ≡ 0)
 unfolding upd
 able-quiet L s p f a = grind (arith, tells)
 
-holds-ahead : (N C : ℕ) (f : Place) (w : ℕ) → Within C f → InRange N (phaseOf f w) → level N (phaseOf f w) ≤ N
+holds-ahead : (N C : ℕ) (f : Place) (w : ℕ) → Within C f → InRange N (phase-of f w) → hold-level N (phase-of f w) ≤ N
     → On N 1 × (0 < number N C f)
 holds-ahead N C f w a r l = grind (arith, tells)
 
-only-W4 : (f : Place) (w i t : ℕ) → phaseOf f w ≡ link i t → f ≡ W4 i t
+only-W4 : (f : Place) (w i t : ℕ) → phase-of f w ≡ link i t → f ≡ W4 i t
 only-W4 f w i t e = grind (arith, tells)
 
 loads : (c : ℕ) (f : Place) (k : ℕ) → stage-1 f ≡ 0
-    → (tries (loadOf c f) k ≡ 0) × (Counters.reads (loadOf c f) k ≡ 0)
-    × ((clears (loadOf c f) k ≡ 0) ⊎ ((j : ℕ) × (n : ℕ) × (f ≡ U7 j n)))
+    → (tries (load-of c f) k ≡ 0) × (admits (load-of c f) k ≡ 0)
+    × ((clears (load-of c f) k ≡ 0) ⊎ ((j : ℕ) × (n : ℕ) × (f ≡ U7 j n)))
 loads c f k h = grind (arith, tells)
 
-leave-falls : (L : Plan) (p : ℕ) → On (L .tree .top p) 1
-    → (stage-1 (cond (leb (L .tree .top p) 1) U4 (U1 (L .tree .top p))) ≡ 0)
-    × (number (L .tree .top p) (L .counters) (cond (leb (L .tree .top p) 1) U4 (U1 (L .tree .top p)))
-    < number (L .tree .top p) (L .counters) writes)
+leave-falls : (L : Plan) (p : ℕ) → On (L .tree .own-level p) 1
+    → (stage-1 (cond (leb (L .tree .own-level p) 1) U4 (U1 (L .tree .own-level p))) ≡ 0)
+    × (number (L .tree .own-level p) (L .counters) (cond (leb (L .tree .own-level p) 1) U4 (U1 (L .tree .own-level p)))
+    < number (L .tree .own-level p) (L .counters) Writer)
 leave-falls L p o = grind (arith, tells)
 
 module _ (P : ℕ) (L : Plan) (g : Apt P L) where
@@ -129,7 +131,7 @@ module _ (P : ℕ) (L : Plan) (g : Apt P L) where
   Quiet s = Good P L s × ((q : ℕ) → On P q → stage-1 (s .place q) ≡ 0)
 
   abbrev pub stage-2 : ℕ → Place → ℕ
-  stage-2 q f = number (T .top q) C f
+  stage-2 q f = number (T .own-level q) C f
 
   abbrev Less : Lock → Lock → Type 0
   Less = Lower P L stage-2 Quiet
@@ -154,9 +156,9 @@ module _ (P : ℕ) (L : Plan) (g : Apt P L) where
       (d .1)
       (rw e (falls L s p f (omega (arith, g .sensible .homes p)) (g .all p on) a)))
 
-  one-leave : (s : Lock) → Quiet s → (p : ℕ) → On P p → s .place p ≡ writes → Reach P L (Less s) s
+  one-leave : (s : Lock) → Quiet s → (p : ℕ) → On P p → s .place p ≡ Writer → Reach P L (Less s) s
   one-leave s v p on e =
-      let f : Place = cond (leb (T .top p) 1) U4 (U1 (T .top p)) in
+      let f : Place = cond (leb (T .own-level p) 1) U4 (U1 (T .own-level p)) in
       let d = leave-falls L p (g .all p on) in
       by-leave-write P L g (Less s) s (v .0) p on e
       (λ w.
@@ -168,7 +170,7 @@ module _ (P : ℕ) (L : Plan) (g : Apt P L) where
   -- the counter is drained: W8 reads what W9 wants
   drained : (s : Lock) → Quiet s → (p k n : ℕ) → On P p → s .place p ≡ W9 k n → k < C
       → s .arrives k ≡ 2 ^ 62 + s .departs k
-  drained s v p k n on e lt = passes P C (L .TR) (tally L s (v .0 .bit)) (v .0 .safe .counted) k lt
+  drained s v p k n on e lt = passes P C (L .reader-threshold) (tally L s (v .0 .bit)) (v .0 .safe .counted) k lt
       (v .0 .safe .counted .marked p k lt (subst (λ x. Marks x k) (sym (gate-at T s p (W9 k n) e)) tt))
       (λ q o. nothing q o (loads (L .home q) (s .place q) k (v .1 q o)))
     where
@@ -181,15 +183,15 @@ module _ (P : ℕ) (L : Plan) (g : Apt P L) where
           let y : W9 k n ≡ U7 j m = sym e ∙ (ap (s .place) (sym z) ∙ u) in let x : _≡_ {A = ℕ} 0 1 = cc in omega arith
 
       nothing : (q : ℕ) → On P q
-          → (tries (loadOf (L .home q) (s .place q)) k ≡ 0) × (Counters.reads (loadOf (L .home q) (s .place q)) k ≡ 0)
-          × ((clears (loadOf (L .home q) (s .place q)) k ≡ 0) ⊎ ((j : ℕ) × (m : ℕ) × (s .place q ≡ U7 j m)))
-          → (tries (loadOf (L .home q) (s .place q)) k ≡ 0) × (Counters.reads (loadOf (L .home q) (s .place q)) k ≡ 0)
-          × (clears (loadOf (L .home q) (s .place q)) k ≡ 0)
+          → (tries (load-of (L .home q) (s .place q)) k ≡ 0) × (admits (load-of (L .home q) (s .place q)) k ≡ 0)
+          × ((clears (load-of (L .home q) (s .place q)) k ≡ 0) ⊎ ((j : ℕ) × (m : ℕ) × (s .place q ≡ U7 j m)))
+          → (tries (load-of (L .home q) (s .place q)) k ≡ 0) × (admits (load-of (L .home q) (s .place q)) k ≡ 0)
+          × (clears (load-of (L .home q) (s .place q)) k ≡ 0)
       nothing q o h = (
         h .0,
         h .1,
         ⊎-elim
-            (λ (z : clears (loadOf (L .home q) (s .place q)) k ≡ 0). z)
+            (λ (z : clears (load-of (L .home q) (s .place q)) k ≡ 0). z)
             (λ (z : (j : ℕ) × (m : ℕ) × (s .place q ≡ U7 j m)). absurd (alone q (z .0) (z .1) o (z .2)))
             (h .2),
       )
@@ -232,7 +234,7 @@ module _ (P : ℕ) (L : Plan) (g : Apt P L) where
 
   -- U10, one move or three, or a move of the rank that is about to link itself
   last-or-not : (s : Lock) → Quiet s → (p i : ℕ) → On P p → s .place p ≡ U10 i → Reach P L (Less s) s
-  last-or-not s v p i on e = by (cases-eq (s .tails (T .elem p i)) (T .node p i))
+  last-or-not s v p i on e = by (cases-eq (s .tails (T .element p i)) (T .node p i))
     where
       inv : Inv T (view T s)
       inv = v .0 .safe .fine .queues
@@ -240,8 +242,8 @@ module _ (P : ℕ) (L : Plan) (g : Apt P L) where
       was : phase T s p ≡ hold i
       was = phase-at T s p (U10 i) e
 
-      oi : On (T .top p) i
-      oi = subst (InRange (T .top p)) was (inv .range p)
+      oi : On (T .own-level p) i
+      oi = subst (InRange (T .own-level p)) was (inv .range p)
 
       t : ℕ
       t = s .nexts (T .node p i)
@@ -268,19 +270,20 @@ module _ (P : ℕ) (L : Plan) (g : Apt P L) where
       second z w = by-step P L g (Less s) s₁ w p on (U8 i) (upd-same (s .place) p (U8 i)) (omega arith)
           (rw (ne-eqb t 0 z) third)
 
-      other : s .tails (T .elem p i) ≢ T .node p i → (m : Follower T (view T s) p i)
+      other : s .tails (T .element p i) ≢ T .node p i → (m : Follower T (view T s) p i)
           → ((phase T s (m .rank) ≡ wait i) × (t ≡ T .node (m .rank) i))
           ⊎ (phase T s (m .rank) ≡ link i (T .node p i)) → Reach P L (Less s) s
       other z m (inl y) = by-step P L g (Less s) s (v .0) p on (U10 i) e (omega arith)
-          (rw (ne-eqb (s .tails (T .elem p i)) (T .node p i) z)
+          (rw (ne-eqb (s .tails (T .element p i)) (T .node p i) z)
           (second (λ x. g .sensible .tree .no-zero (m .rank) i (m .on) (sym (y .1) ∙ x))))
       other z m (inr y) = one-move s v (m .rank) (g .sensible .ranks (m .rank) (omega (arith, m .on)))
           (W4 i (T .node p i))
-          (only-W4 (s .place (m .rank)) (s .statuses (T .node (m .rank) (at-level (s .place (m .rank))))) i
+          (only-W4 (s .place (m .rank)) (s .statuses (T .node (m .rank) (status-level (s .place (m .rank))))) i
           (T .node p i) y)
           tt
 
-      by : (s .tails (T .elem p i) ≡ T .node p i) ⊎ (s .tails (T .elem p i) ≡ T .node p i → ⊥) → Reach P L (Less s) s
+      by : (s .tails (T .element p i) ≡ T .node p i) ⊎ (s .tails (T .element p i) ≡ T .node p i → ⊥)
+          → Reach P L (Less s) s
       by (inl z) = one-move s v p on (U10 i) e (oi, z)
       by (inr z) = let m = follower T (g .sensible .tree) (view T s) inv p i was z in other z m (m .how)
 
@@ -291,7 +294,7 @@ module _ (P : ℕ) (L : Plan) (g : Apt P L) where
       (able-or L s p (s .place p) (g .sensible .small) (v .0 .safe .fine .queues .range p) (v .0 .safe .fine .sound p)
       (v .0 .safe .within p) (no-wait (phase T s p) n) h)
     where
-      odd : (s .place p ≡ writes) ⊎ (((k : ℕ) × (n : ℕ) × (s .place p ≡ W9 k n)) ⊎ ((i : ℕ) × (s .place p ≡ U10 i)))
+      odd : (s .place p ≡ Writer) ⊎ (((k : ℕ) × (n : ℕ) × (s .place p ≡ W9 k n)) ⊎ ((i : ℕ) × (s .place p ≡ U10 i)))
           → Reach P L (Less s) s
       odd (inl e) = one-leave s v p on e
       odd (inr (inl e)) = check-again s v p (e .0) (e .1) on (e .2)
@@ -311,8 +314,8 @@ module _ (P : ℕ) (L : Plan) (g : Apt P L) where
       other : Mover T (view T s) → Reach P L (Less s) s
       other m =
           let d =
-          holds-ahead (T .top (m .rank)) C (s .place (m .rank))
-          (s .statuses (T .node (m .rank) (at-level (s .place (m .rank))))) (v .0 .safe .within (m .rank))
+          holds-ahead (T .own-level (m .rank)) C (s .place (m .rank))
+          (s .statuses (T .node (m .rank) (status-level (s .place (m .rank))))) (v .0 .safe .within (m .rank))
           (inv .range (m .rank)) (m .holds) in
           free-move s v (m .rank) (g .sensible .ranks (m .rank) (d .0)) (m .free) (d .1)
 

@@ -33,13 +33,13 @@ tries (leaving c) d = 0
 tries (carrying c n) d = 0
 tries (clearing c n) d = 0
 
-abbrev pub reads : Load → ℕ → ℕ
-reads none d = 0
-reads (trying c) d = 0
-reads (inside c) d = pick c 1 d
-reads (leaving c) d = pick c 1 d
-reads (carrying c n) d = pick c n d
-reads (clearing c n) d = 0
+abbrev pub admits : Load → ℕ → ℕ
+admits none d = 0
+admits (trying c) d = 0
+admits (inside c) d = pick c 1 d
+admits (leaving c) d = pick c 1 d
+admits (carrying c n) d = pick c n d
+admits (clearing c n) d = 0
 
 abbrev pub clears : Load → ℕ → ℕ
 clears none d = 0
@@ -81,19 +81,19 @@ pub record Tally : Type 0 where
   pub departs : ℕ → ℕ
   pub bit : ℕ → ℕ
 
-abbrev pub F : ℕ
-F = 2 ^ 62
+abbrev pub write-bit : ℕ
+write-bit = 2 ^ 62
 
-pub record Count (P TR : ℕ) (s : Tally) (c : ℕ) : Type 0 where
+pub record Count (P limit : ℕ) (s : Tally) (c : ℕ) : Type 0 where
   pub sum : s .arrives c
-      ≡ F * s .bit c + s .departs c + total P (λ p. tries (s .load p) c) + total P (λ p. reads (s .load p) c)
+      ≡ write-bit * s .bit c + s .departs c + total P (λ p. tries (s .load p) c) + total P (λ p. admits (s .load p) c)
       + total P (λ p. clears (s .load p) c)
-  pub small : s .departs c + total P (λ p. reads (s .load p) c) + total P (λ p. clears (s .load p) c) ≤ TR
+  pub small : s .departs c + total P (λ p. admits (s .load p) c) + total P (λ p. clears (s .load p) c) ≤ limit
   pub bits : s .bit c ≤ 1
   pub stands : s .bit c ≡ 1 → (p : ℕ) × Marks (s .gate p) c
 
-pub record Counted (P C TR : ℕ) (s : Tally) : Type 0 where
-  pub each : (c : ℕ) → c < C → Count P TR s c
+pub record Counted (P C limit : ℕ) (s : Tally) : Type 0 where
+  pub each : (c : ℕ) → c < C → Count P limit s c
   pub marked : (p c : ℕ) → c < C → Marks (s .gate p) c → s .bit c ≡ 1
   pub kept : (p c : ℕ) → c < C → Keeps (s .gate p) c → (q : ℕ) → On P q → s .load q ≢ inside c
-  pub seen : (p k n : ℕ) → s .gate p ≡ reading k n → F + s .departs k + total P (λ p. reads (s .load p) k) ≤ n
+  pub seen : (p k n : ℕ) → s .gate p ≡ reading k n → write-bit + s .departs k + total P (λ p. admits (s .load p) k) ≤ n

@@ -6,23 +6,23 @@ use mathlib.Core.Bool.{Bool, true, false, cond}
 use lib.Dec.{eqb, leb, ltb}
 use Rattle.queues.specs.Machine.{Tree, On, Phase, out, fresh, clean, ready, link, wait, hold, give, State, Inv}
 pub use Rattle.places.specs.declared.place.Place.{Place}
-pub use Rattle.places.specs.declared.place.Place.the-variants.{Idle as idle, W1, W2, W3, W4, W5, W6, W7, W8, W9, U1}
+pub use Rattle.places.specs.declared.place.Place.the-variants.{Idle, W1, W2, W3, W4, W5, W6, W7, W8, W9, U1}
 pub use Rattle.places.specs.declared.place.Place.the-variants.{U2, U3, U4, U5, U6, U7, U8, U9, U10, R1, R2, R3, R4}
-pub use Rattle.places.specs.declared.place.Place.the-variants.{R5, R6, R7, Writer as writes, Reader as reads}
+pub use Rattle.places.specs.declared.place.Place.the-variants.{R5, R6, R7, Writer, Reader}
 
 abbrev pub WAIT : ℕ
 WAIT = 2 ^ 32
 
 -- PARENT, or MODE at level 1
-abbrev pub tell : ℕ → ℕ
-tell i = cond (eqb i 1) (2 ^ 32 + 2) (2 ^ 32 + 1)
+abbrev pub told-status : ℕ → ℕ
+told-status i = cond (eqb i 1) (2 ^ 32 + 2) (2 ^ 32 + 1)
 
 -- the tree, and the numbers of a plan
 pub record Plan : Type 0 where
   pub tree : Tree
   pub counters : ℕ
-  pub TR : ℕ
-  pub cap : ℕ → ℕ → ℕ
+  pub reader-threshold : ℕ
+  pub hand-over-limit : ℕ → ℕ → ℕ
   pub home : ℕ → ℕ
 
 -- records and words; TAIL is by element, ARRIVE and DEPART by counter; and the ghost history
@@ -160,123 +160,125 @@ module _ (L : Plan) (s : Lock) (p : ℕ) where
   x i = L .tree .node p i
 
   abbrev pub k : ℕ → ℕ
-  k i = L .tree .elem p i
+  k i = L .tree .element p i
 
   abbrev pub c : ℕ
   c = L .home p
 
   -- where a rank goes when a level is done
   abbrev pub done : ℕ → Place
-  done i = cond (eqb i (L .tree .top p)) idle (U8 (suc i))
+  done i = cond (eqb i (L .tree .own-level p)) Idle (U8 (suc i))
 
   abbrev pub next : ℕ → Place → (ℕ → Place) → Place
   next n end more = cond (ltb (suc n) (L .counters)) (more (suc n)) end
 
   -- one row, at the place given
   abbrev pub row : Place → Lock
-  row idle = s
+  row Idle = s
   row (W1 i) = go (put-next s (x i) 0) p (W2 i)
   row (W2 i) = go (put-status s (x i) WAIT) p (W3 i)
   row (W3 i) = go (join s (k i) (x i)) p (cond (eqb (s .tails (k i)) 0) (W6 i) (W4 i (s .tails (k i))))
   row (W4 i t) = go (put-next s t (x i)) p (W5 i)
   row (W5 i) = cond (eqb (s .statuses (x i)) WAIT) s
-      (cond (leb (s .statuses (x i)) 1000) (go s p writes) (cond (eqb (s .statuses (x i)) (tell i)) (go s p (W6 i)) s))
+      (cond (leb (s .statuses (x i)) 1000) (go s p Writer)
+      (cond (eqb (s .statuses (x i)) (told-status i)) (go s p (W6 i)) s))
   row (W6 i) = go (put-status s (x i) 0) p (cond (leb 2 i) (W1 (pred i)) (W7 0))
   row (W7 n) = go (put-arrive s n (s .arrives n + 2 ^ 62)) p (next n (W8 0) W7)
   row (W8 n) = go s p (W9 n (s .arrives n))
-  row (W9 n a) = go s p (cond (eqb a (2 ^ 62 + s .departs n)) (next n writes W8) (W8 n))
+  row (W9 n a) = go s p (cond (eqb a (2 ^ 62 + s .departs n)) (next n Writer W8) (W8 n))
   row (U1 i) = go s p (U2 i (s .statuses (x i)))
   row (U2 i n) = go s p
       (cond (eqb (s .nexts (x i)) 0) (cond (leb i 2) U4 (U1 (pred i)))
-      (cond (ltb n (L .cap p i)) (U3 i (s .nexts (x i)) (suc n)) (cond (leb i 2) U4 (U1 (pred i)))))
+      (cond (ltb n (L .hand-over-limit p i)) (U3 i (s .nexts (x i)) (suc n)) (cond (leb i 2) U4 (U1 (pred i)))))
   row (U3 i t n) = go (drop (put-status s t n) (k i)) p (done i)
   row U4 = go s p (U5 (s .statuses (x 1)))
-  row (U5 n) =
-      go s p (cond (eqb (s .nexts (x 1)) 0) (U6 0) (cond (ltb n (L .cap p 1)) (U3 1 (s .nexts (x 1)) (suc n)) (U6 0)))
+  row (U5 n) = go s p
+      (cond (eqb (s .nexts (x 1)) 0) (U6 0)
+      (cond (ltb n (L .hand-over-limit p 1)) (U3 1 (s .nexts (x 1)) (suc n)) (U6 0)))
   row (U6 n) = go (put-depart s n 0) p (U7 n (s .departs n))
   row (U7 n a) = go (put-arrive s n (s .arrives n - (2 ^ 62 + a))) p (next n (U8 1) U6)
   row (U8 i) = go s p (cond (eqb (s .nexts (x i)) 0) (U10 i) (U9 i (s .nexts (x i))))
-  row (U9 i t) = go (drop (put-status s t (tell i)) (k i)) p (done i)
+  row (U9 i t) = go (drop (put-status s t (told-status i)) (k i)) p (done i)
   row (U10 i) = cond (eqb (s .tails (k i)) (x i)) (go (free s (k i)) p (done i)) (go s p (U8 i))
-  row R1 = go (put-arrive s c (suc (s .arrives c))) p (cond (ltb (s .arrives c) (L .TR)) reads R2)
+  row R1 = go (put-arrive s c (suc (s .arrives c))) p (cond (ltb (s .arrives c) (L .reader-threshold)) Reader R2)
   row R2 = go (put-arrive s c (pred (s .arrives c))) p R3
-  row R3 = go s p (cond (ltb (s .arrives c) (L .TR)) R1 (cond (leb (2 ^ 62) (s .arrives c)) R3 R4))
+  row R3 = go s p (cond (ltb (s .arrives c) (L .reader-threshold)) R1 (cond (leb (2 ^ 62) (s .arrives c)) R3 R4))
   row R4 = go s p (cond (eqb (s .tails (k 1)) 0) R5 R3)
   row R5 = go (put-depart s c 0) p (R6 (s .departs c))
   row (R6 n) = go (put-arrive s c (s .arrives c - n)) p R3
-  row R7 = go (put-depart s c (suc (s .departs c))) p idle
-  row writes = s
-  row reads = s
+  row R7 = go (put-depart s c (suc (s .departs c))) p Idle
+  row Writer = s
+  row Reader = s
 
   abbrev pub step : Lock
   step = row (s .place p)
 
 -- what the queues see of a place; w is the STATUS of the node that waits, at W5
-abbrev pub phaseOf : Place → ℕ → Phase
-phaseOf idle w = out
-phaseOf (W1 i) w = fresh i
-phaseOf (W2 i) w = clean i
-phaseOf (W3 i) w = ready i
-phaseOf (W4 i t) w = link i t
-phaseOf (W5 i) w = cond (eqb w WAIT) (wait i) (cond (leb w 1000) (hold 1) (hold i))
-phaseOf (W6 i) w = hold i
-phaseOf (W7 n) w = hold 1
-phaseOf (W8 n) w = hold 1
-phaseOf (W9 n a) w = hold 1
-phaseOf (U1 i) w = hold 1
-phaseOf (U2 i n) w = hold 1
-phaseOf (U3 i t n) w = give 1 i t
-phaseOf U4 w = hold 1
-phaseOf (U5 n) w = hold 1
-phaseOf (U6 n) w = hold 1
-phaseOf (U7 n a) w = hold 1
-phaseOf (U8 i) w = hold i
-phaseOf (U9 i t) w = give i i t
-phaseOf (U10 i) w = hold i
-phaseOf R1 w = out
-phaseOf R2 w = out
-phaseOf R3 w = out
-phaseOf R4 w = out
-phaseOf R5 w = out
-phaseOf (R6 n) w = out
-phaseOf R7 w = out
-phaseOf writes w = hold 1
-phaseOf reads w = out
+abbrev pub phase-of : Place → ℕ → Phase
+phase-of Idle w = out
+phase-of (W1 i) w = fresh i
+phase-of (W2 i) w = clean i
+phase-of (W3 i) w = ready i
+phase-of (W4 i t) w = link i t
+phase-of (W5 i) w = cond (eqb w WAIT) (wait i) (cond (leb w 1000) (hold 1) (hold i))
+phase-of (W6 i) w = hold i
+phase-of (W7 n) w = hold 1
+phase-of (W8 n) w = hold 1
+phase-of (W9 n a) w = hold 1
+phase-of (U1 i) w = hold 1
+phase-of (U2 i n) w = hold 1
+phase-of (U3 i t n) w = give 1 i t
+phase-of U4 w = hold 1
+phase-of (U5 n) w = hold 1
+phase-of (U6 n) w = hold 1
+phase-of (U7 n a) w = hold 1
+phase-of (U8 i) w = hold i
+phase-of (U9 i t) w = give i i t
+phase-of (U10 i) w = hold i
+phase-of R1 w = out
+phase-of R2 w = out
+phase-of R3 w = out
+phase-of R4 w = out
+phase-of R5 w = out
+phase-of (R6 n) w = out
+phase-of R7 w = out
+phase-of Writer w = hold 1
+phase-of Reader w = out
 
 -- the level at which a place reads its STATUS word
-abbrev pub at-level : Place → ℕ
-at-level idle = 0
-at-level (W1 i) = 0
-at-level (W2 i) = 0
-at-level (W3 i) = 0
-at-level (W4 i t) = 0
-at-level (W5 i) = i
-at-level (W6 i) = 0
-at-level (W7 n) = 0
-at-level (W8 n) = 0
-at-level (W9 n a) = 0
-at-level (U1 i) = 0
-at-level (U2 i n) = 0
-at-level (U3 i t n) = 0
-at-level U4 = 0
-at-level (U5 n) = 0
-at-level (U6 n) = 0
-at-level (U7 n a) = 0
-at-level (U8 i) = 0
-at-level (U9 i t) = 0
-at-level (U10 i) = 0
-at-level R1 = 0
-at-level R2 = 0
-at-level R3 = 0
-at-level R4 = 0
-at-level R5 = 0
-at-level (R6 n) = 0
-at-level R7 = 0
-at-level writes = 0
-at-level reads = 0
+abbrev pub status-level : Place → ℕ
+status-level Idle = 0
+status-level (W1 i) = 0
+status-level (W2 i) = 0
+status-level (W3 i) = 0
+status-level (W4 i t) = 0
+status-level (W5 i) = i
+status-level (W6 i) = 0
+status-level (W7 n) = 0
+status-level (W8 n) = 0
+status-level (W9 n a) = 0
+status-level (U1 i) = 0
+status-level (U2 i n) = 0
+status-level (U3 i t n) = 0
+status-level U4 = 0
+status-level (U5 n) = 0
+status-level (U6 n) = 0
+status-level (U7 n a) = 0
+status-level (U8 i) = 0
+status-level (U9 i t) = 0
+status-level (U10 i) = 0
+status-level R1 = 0
+status-level R2 = 0
+status-level R3 = 0
+status-level R4 = 0
+status-level R5 = 0
+status-level (R6 n) = 0
+status-level R7 = 0
+status-level Writer = 0
+status-level Reader = 0
 
 abbrev pub phase : Tree → Lock → ℕ → Phase
-phase T s p = phaseOf (s .place p) (s .statuses (T .node p (at-level (s .place p))))
+phase T s p = phase-of (s .place p) (s .statuses (T .node p (status-level (s .place p))))
 
 abbrev pub view : Tree → Lock → State
 view T s =
@@ -291,23 +293,24 @@ view T s =
 
 -- the own statuses from a level on are counts within the plan's bounds
 abbrev pub Counts : Plan → (ℕ → ℕ) → ℕ → ℕ → Type 0
-Counts L statuses p from = (j : ℕ) → from ≤ j → j ≤ L .tree .top p → statuses (L .tree .node p j) ≤ 1000
+Counts L statuses p from = (j : ℕ) → from ≤ j → j ≤ L .tree .own-level p → statuses (L .tree .node p j) ≤ 1000
 
 -- what a rank's place says of its fields and of the STATUS words
 abbrev pub Sound : Plan → (ℕ → ℕ) → ℕ → Place → Type 0
-Sound L statuses p idle = Unit {0}
+Sound L statuses p Idle = Unit {0}
 Sound L statuses p (W1 i) = Counts L statuses p (suc i)
 Sound L statuses p (W2 i) = Counts L statuses p (suc i)
 Sound L statuses p (W3 i) = (statuses (L .tree .node p i) ≡ WAIT) × Counts L statuses p (suc i)
 Sound L statuses p (W4 i t) = (statuses (L .tree .node p i) ≡ WAIT) × Counts L statuses p (suc i)
-Sound L statuses p (W5 i) = On (L .tree .top p) i × Counts L statuses p (suc i)
-    × ((statuses (L .tree .node p i) ≡ WAIT) ⊎ ((statuses (L .tree .node p i) ≡ tell i) ⊎ Counts L statuses p 1))
+Sound L statuses p (W5 i) = On (L .tree .own-level p) i × Counts L statuses p (suc i)
+    × ((statuses (L .tree .node p i) ≡ WAIT)
+    ⊎ ((statuses (L .tree .node p i) ≡ told-status i) ⊎ Counts L statuses p 1))
 Sound L statuses p (W6 i) = Counts L statuses p (suc i)
 Sound L statuses p (W7 n) = Counts L statuses p 1
 Sound L statuses p (W8 n) = Counts L statuses p 1
 Sound L statuses p (W9 n a) = Counts L statuses p 1
-Sound L statuses p (U1 i) = (2 ≤ i) × (i ≤ L .tree .top p) × Counts L statuses p 1
-Sound L statuses p (U2 i n) = (2 ≤ i) × (i ≤ L .tree .top p) × Counts L statuses p 1
+Sound L statuses p (U1 i) = (2 ≤ i) × (i ≤ L .tree .own-level p) × Counts L statuses p 1
+Sound L statuses p (U2 i n) = (2 ≤ i) × (i ≤ L .tree .own-level p) × Counts L statuses p 1
 Sound L statuses p (U3 i t n) = (n ≤ 1000) × Counts L statuses p 1
 Sound L statuses p U4 = Counts L statuses p 1
 Sound L statuses p (U5 n) = Counts L statuses p 1
@@ -323,8 +326,8 @@ Sound L statuses p R4 = Unit {0}
 Sound L statuses p R5 = Unit {0}
 Sound L statuses p (R6 n) = Unit {0}
 Sound L statuses p R7 = Unit {0}
-Sound L statuses p writes = Counts L statuses p 1
-Sound L statuses p reads = Unit {0}
+Sound L statuses p Writer = Counts L statuses p 1
+Sound L statuses p Reader = Unit {0}
 
 pub record Fine (L : Plan) (s : Lock) : Type 0 where
   pub queues : Inv (L .tree) (view (L .tree) s)

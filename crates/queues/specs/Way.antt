@@ -6,9 +6,9 @@ use mathlib.Core.Bool.{cond}
 use mathlib.Core.List.{List, [], _∷_}
 use lib.Dec.{leb}
 use Rattle.queues.specs.Machine.{Tree, On}
-use Rattle.queues.specs.Counters.{F}
-use Rattle.queues.specs.Rows.{Place, idle, W1, W2, W3, W4, W5, W6, W7, W8, W9, U1, U2, U3, U4, U5, U6, U7, U8, U9}
-use Rattle.queues.specs.Rows.{U10, R1, R2, R3, R4, R5, R6, R7, writes, reads, WAIT, tell, Plan, Lock, go, row}
+use Rattle.queues.specs.Counters.{write-bit}
+use Rattle.queues.specs.Rows.{Place, Idle, W1, W2, W3, W4, W5, W6, W7, W8, W9, U1, U2, U3, U4, U5, U6, U7, U8, U9}
+use Rattle.queues.specs.Rows.{U10, R1, R2, R3, R4, R5, R6, R7, Writer, Reader, WAIT, told-status, Plan, Lock, go, row}
 use Rattle.places.specs.Records.{recorded}
 use Rattle.queues.specs.Claim.{Sensible, Jobs}
 
@@ -24,34 +24,34 @@ pub data Move : Type 0 where
 -- t is the home of a node
 pub record Node (T : Tree) (t : ℕ) : Type 0 where
   pub rank : ℕ
-  pub lvl : ℕ
-  pub on : On (T .top rank) lvl
-  pub is : t ≡ T .node rank lvl
+  pub level : ℕ
+  pub on : On (T .own-level rank) level
+  pub is : t ≡ T .node rank level
 
 -- a step is accepted: not idle, not in, the fields in range, and W5 reads a status it knows
 abbrev pub Accepts : Plan → Lock → ℕ → Place → Type 0
-Accepts L s p idle = ⊥
-Accepts L s p (W1 i) = On (L .tree .top p) i
-Accepts L s p (W2 i) = On (L .tree .top p) i
-Accepts L s p (W3 i) = On (L .tree .top p) i
-Accepts L s p (W4 i t) = On (L .tree .top p) i × Node (L .tree) t
-Accepts L s p (W5 i) = On (L .tree .top p) i
+Accepts L s p Idle = ⊥
+Accepts L s p (W1 i) = On (L .tree .own-level p) i
+Accepts L s p (W2 i) = On (L .tree .own-level p) i
+Accepts L s p (W3 i) = On (L .tree .own-level p) i
+Accepts L s p (W4 i t) = On (L .tree .own-level p) i × Node (L .tree) t
+Accepts L s p (W5 i) = On (L .tree .own-level p) i
     × ((s .statuses (L .tree .node p i) ≡ WAIT)
-    ⊎ ((s .statuses (L .tree .node p i) ≡ tell i) ⊎ (s .statuses (L .tree .node p i) ≤ 1000)))
-Accepts L s p (W6 i) = On (L .tree .top p) i
+    ⊎ ((s .statuses (L .tree .node p i) ≡ told-status i) ⊎ (s .statuses (L .tree .node p i) ≤ 1000)))
+Accepts L s p (W6 i) = On (L .tree .own-level p) i
 Accepts L s p (W7 k) = k < L .counters
 Accepts L s p (W8 k) = k < L .counters
 Accepts L s p (W9 k n) = k < L .counters
-Accepts L s p (U1 i) = (2 ≤ i) × (i ≤ L .tree .top p)
-Accepts L s p (U2 i n) = (2 ≤ i) × (i ≤ L .tree .top p)
-Accepts L s p (U3 i t n) = On (L .tree .top p) i × Node (L .tree) t
+Accepts L s p (U1 i) = (2 ≤ i) × (i ≤ L .tree .own-level p)
+Accepts L s p (U2 i n) = (2 ≤ i) × (i ≤ L .tree .own-level p)
+Accepts L s p (U3 i t n) = On (L .tree .own-level p) i × Node (L .tree) t
 Accepts L s p U4 = Unit {0}
 Accepts L s p (U5 n) = Unit {0}
 Accepts L s p (U6 k) = k < L .counters
 Accepts L s p (U7 k n) = k < L .counters
-Accepts L s p (U8 i) = On (L .tree .top p) i
-Accepts L s p (U9 i t) = On (L .tree .top p) i × Node (L .tree) t
-Accepts L s p (U10 i) = On (L .tree .top p) i
+Accepts L s p (U8 i) = On (L .tree .own-level p) i
+Accepts L s p (U9 i t) = On (L .tree .own-level p) i × Node (L .tree) t
+Accepts L s p (U10 i) = On (L .tree .own-level p) i
 Accepts L s p R1 = Unit {0}
 Accepts L s p R2 = Unit {0}
 Accepts L s p R3 = Unit {0}
@@ -59,8 +59,8 @@ Accepts L s p R4 = Unit {0}
 Accepts L s p R5 = Unit {0}
 Accepts L s p (R6 n) = Unit {0}
 Accepts L s p R7 = Unit {0}
-Accepts L s p writes = ⊥
-Accepts L s p reads = ⊥
+Accepts L s p Writer = ⊥
+Accepts L s p Reader = ⊥
 
 -- a leave is accepted
 abbrev pub In : Place → Type 0
@@ -68,7 +68,7 @@ In f = 27 ≤ tag f
 
 -- where a leave goes
 abbrev pub exit : Plan → ℕ → Place → Place
-exit L p idle = idle
+exit L p Idle = Idle
 exit L p (W1 i) = W1 i
 exit L p (W2 i) = W2 i
 exit L p (W3 i) = W3 i
@@ -95,8 +95,8 @@ exit L p R4 = R4
 exit L p R5 = R5
 exit L p (R6 n) = R6 n
 exit L p R7 = R7
-exit L p writes = cond (leb (L .tree .top p) 1) U4 (U1 (L .tree .top p))
-exit L p reads = R7
+exit L p Writer = cond (leb (L .tree .own-level p) 1) U4 (U1 (L .tree .own-level p))
+exit L p Reader = R7
 
 abbrev pub act : Plan → Lock → Move → Lock
 act L s (Step p) = row L s p (s .place p)
@@ -117,16 +117,16 @@ Plays P L s [] = Unit {0}
 Plays P L s (m ∷ ms) = Accepted P L s m × Plays P L (act L s m) ms
 
 pub record AtRest (P : ℕ) (L : Plan) (s : Lock) : Type 0 where
-  pub idles : (p : ℕ) → On P p → s .place p ≡ idle
+  pub idles : (p : ℕ) → On P p → s .place p ≡ Idle
   pub tails : (k : ℕ) → s .tails k ≡ 0
   pub counts : (c : ℕ) → c < L .counters → s .arrives c ≡ s .departs c
 
 -- what a plan says besides
 pub record Apt (P : ℕ) (L : Plan) : Type 0 where
   pub sensible : Sensible P L
-  pub all : (p : ℕ) → On P p → On (L .tree .top p) 1
-  pub some : 1 ≤ L .TR
-  pub less : L .TR < F
+  pub all : (p : ℕ) → On P p → On (L .tree .own-level p) 1
+  pub some : 1 ≤ L .reader-threshold
+  pub less : L .reader-threshold < write-bit
 
 abbrev pub WayBack : Type 0
 WayBack = (P : ℕ) (L : Plan) → Apt P L → (s : Lock) → Jobs P L s

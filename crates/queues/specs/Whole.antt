@@ -4,77 +4,78 @@ use mathlib.Core.Path.{_≡_}
 use mathlib.Core.Bool.{cond}
 use lib.Dec.{eqb, leb}
 use Rattle.queues.specs.Machine.{Tree, On}
-use Rattle.queues.specs.Rows.{Place, idle, W1, W2, W3, W4, W5, W6, W7, W8, W9, U1, U2, U3, U4, U5, U6, U7, U8, U9}
-use Rattle.queues.specs.Rows.{U10, R1, R2, R3, R4, R5, R6, R7, writes, reads, WAIT, Plan, Lock, at-level, Fine, upd}
+use Rattle.queues.specs.Rows.{Place, Idle, W1, W2, W3, W4, W5, W6, W7, W8, W9, U1, U2, U3, U4, U5, U6, U7, U8, U9}
+use Rattle.queues.specs.Rows.{U10, R1, R2, R3, R4, R5, R6, R7, Writer, Reader, WAIT, Plan, Lock, status-level, Fine}
+use Rattle.queues.specs.Rows.{upd}
 use Rattle.queues.specs.Counters.{Load, none, trying, inside, leaving, carrying, clearing, Gate, shut, raising}
 use Rattle.queues.specs.Counters.{checking, reading, wide, lowering, Tally, Counted}
 
 -- how far a place has the writer's bits; w is the STATUS that W5 reads
-abbrev pub gateOf : Place → ℕ → Gate
-gateOf idle w = shut
-gateOf (W1 i) w = shut
-gateOf (W2 i) w = shut
-gateOf (W3 i) w = shut
-gateOf (W4 i t) w = shut
-gateOf (W5 i) w = cond (eqb w WAIT) shut (cond (leb w 1000) wide shut)
-gateOf (W6 i) w = shut
-gateOf (W7 k) w = raising k
-gateOf (W8 k) w = checking k
-gateOf (W9 k n) w = reading k n
-gateOf (U1 i) w = wide
-gateOf (U2 i n) w = wide
-gateOf (U3 i t n) w = wide
-gateOf U4 w = wide
-gateOf (U5 n) w = wide
-gateOf (U6 k) w = lowering k
-gateOf (U7 k n) w = lowering k
-gateOf (U8 i) w = shut
-gateOf (U9 i t) w = shut
-gateOf (U10 i) w = shut
-gateOf R1 w = shut
-gateOf R2 w = shut
-gateOf R3 w = shut
-gateOf R4 w = shut
-gateOf R5 w = shut
-gateOf (R6 n) w = shut
-gateOf R7 w = shut
-gateOf writes w = wide
-gateOf reads w = shut
+abbrev pub gate-of : Place → ℕ → Gate
+gate-of Idle w = shut
+gate-of (W1 i) w = shut
+gate-of (W2 i) w = shut
+gate-of (W3 i) w = shut
+gate-of (W4 i t) w = shut
+gate-of (W5 i) w = cond (eqb w WAIT) shut (cond (leb w 1000) wide shut)
+gate-of (W6 i) w = shut
+gate-of (W7 k) w = raising k
+gate-of (W8 k) w = checking k
+gate-of (W9 k n) w = reading k n
+gate-of (U1 i) w = wide
+gate-of (U2 i n) w = wide
+gate-of (U3 i t n) w = wide
+gate-of U4 w = wide
+gate-of (U5 n) w = wide
+gate-of (U6 k) w = lowering k
+gate-of (U7 k n) w = lowering k
+gate-of (U8 i) w = shut
+gate-of (U9 i t) w = shut
+gate-of (U10 i) w = shut
+gate-of R1 w = shut
+gate-of R2 w = shut
+gate-of R3 w = shut
+gate-of R4 w = shut
+gate-of R5 w = shut
+gate-of (R6 n) w = shut
+gate-of R7 w = shut
+gate-of Writer w = wide
+gate-of Reader w = shut
 
 -- what a place stands for in a counter; c is the rank's own counter
-abbrev pub loadOf : ℕ → Place → Load
-loadOf c idle = none
-loadOf c (W1 i) = none
-loadOf c (W2 i) = none
-loadOf c (W3 i) = none
-loadOf c (W4 i t) = none
-loadOf c (W5 i) = none
-loadOf c (W6 i) = none
-loadOf c (W7 k) = none
-loadOf c (W8 k) = none
-loadOf c (W9 k n) = none
-loadOf c (U1 i) = none
-loadOf c (U2 i n) = none
-loadOf c (U3 i t n) = none
-loadOf c U4 = none
-loadOf c (U5 n) = none
-loadOf c (U6 k) = none
-loadOf c (U7 k n) = clearing k n
-loadOf c (U8 i) = none
-loadOf c (U9 i t) = none
-loadOf c (U10 i) = none
-loadOf c R1 = none
-loadOf c R2 = trying c
-loadOf c R3 = none
-loadOf c R4 = none
-loadOf c R5 = none
-loadOf c (R6 n) = carrying c n
-loadOf c R7 = leaving c
-loadOf c writes = none
-loadOf c reads = inside c
+abbrev pub load-of : ℕ → Place → Load
+load-of c Idle = none
+load-of c (W1 i) = none
+load-of c (W2 i) = none
+load-of c (W3 i) = none
+load-of c (W4 i t) = none
+load-of c (W5 i) = none
+load-of c (W6 i) = none
+load-of c (W7 k) = none
+load-of c (W8 k) = none
+load-of c (W9 k n) = none
+load-of c (U1 i) = none
+load-of c (U2 i n) = none
+load-of c (U3 i t n) = none
+load-of c U4 = none
+load-of c (U5 n) = none
+load-of c (U6 k) = none
+load-of c (U7 k n) = clearing k n
+load-of c (U8 i) = none
+load-of c (U9 i t) = none
+load-of c (U10 i) = none
+load-of c R1 = none
+load-of c R2 = trying c
+load-of c R3 = none
+load-of c R4 = none
+load-of c R5 = none
+load-of c (R6 n) = carrying c n
+load-of c R7 = leaving c
+load-of c Writer = none
+load-of c Reader = inside c
 
 abbrev pub Within : ℕ → Place → Type 0
-Within C idle = Unit {0}
+Within C Idle = Unit {0}
 Within C (W1 i) = Unit {0}
 Within C (W2 i) = Unit {0}
 Within C (W3 i) = Unit {0}
@@ -101,16 +102,16 @@ Within C R4 = Unit {0}
 Within C R5 = Unit {0}
 Within C (R6 n) = Unit {0}
 Within C R7 = Unit {0}
-Within C writes = Unit {0}
-Within C reads = Unit {0}
+Within C Writer = Unit {0}
+Within C Reader = Unit {0}
 
 abbrev pub gate : Tree → Lock → ℕ → Gate
-gate T s p = gateOf (s .place p) (s .statuses (T .node p (at-level (s .place p))))
+gate T s p = gate-of (s .place p) (s .statuses (T .node p (status-level (s .place p))))
 
 abbrev pub tally : Plan → Lock → (ℕ → ℕ) → Tally
 tally L s bit =
     record {
-      load = λ p. loadOf (L .home p) (s .place p);
+      load = λ p. load-of (L .home p) (s .place p);
       gate = gate (L .tree) s;
       arrives = s .arrives;
       departs = s .departs;
@@ -119,5 +120,5 @@ tally L s bit =
 
 pub record Safe (P : ℕ) (L : Plan) (s : Lock) (bit : ℕ → ℕ) : Type 0 where
   pub fine : Fine L s
-  pub counted : Counted P (L .counters) (L .TR) (tally L s bit)
+  pub counted : Counted P (L .counters) (L .reader-threshold) (tally L s bit)
   pub within : (p : ℕ) → Within (L .counters) (s .place p)
