@@ -24,9 +24,10 @@ use Rattle.places.specs.declared.follow.Next.{Next}
 use Rattle.places.specs.declared.record.Record.{Record}
 use Rattle.lock.specs.Outcomes.{Outcome, record-at}
 use Rattle.queues.specs.Machine.{On}
-use Rattle.queues.specs.Rows.{Place, Idle, W1, W2, W3, W4, W5, W6, W7, W8, W9, U1, U2, U3, U4, U5, U6, U7, U8, U9, U10}
-use Rattle.queues.specs.Rows.{R1, R2, R3, R4, R5, R6, R7, Writer, Reader, Plan, Lock}
-use Rattle.queues.specs.Way.{Apt}
+use Rattle.queues.specs.Table.{Place, Idle, W1, W2, W3, W4, W5, W6, W7, W8, W9, U1, U2, U3, U4, U5, U6, U7, U8, U9}
+use Rattle.queues.specs.Table.{U10}
+use Rattle.queues.specs.Table.{R1, R2, R3, R4, R5, R6, R7, Writer, Reader, Plan, Lock}
+use Rattle.queues.specs.Moves.{Apt}
 
 -- a plan as the abstract machine sees it; an element goes by its home
 abbrev pub machine-plan : Tree → Plan

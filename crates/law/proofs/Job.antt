@@ -17,12 +17,12 @@ use Rattle.law.specs.Presence.{Presence, nobody, seen}
 use Rattle.law.specs.Rest.{At-rest}
 use Rattle.law.specs.WayBack.{Way-back}
 use Rattle.law.specs.declared.call.Call.{Call}
-use Rattle.law.proofs.Back.{Run, as-calls, goes-on, no-asks, ran-append, returns-to-rest, runs-at, runs-present}
-use Rattle.law.proofs.Back.{seen-append}
+use Rattle.law.proofs.WayBack.{Run, as-calls, goes-on, no-asks, ran-append, returns-to-rest, runs-at, runs-present}
+use Rattle.law.proofs.WayBack.{seen-append}
 use Rattle.law.proofs.Bridge.{Geometry}
-use Rattle.law.proofs.Planned.{every-plan}
+use Rattle.law.proofs.PlanGeometry.{every-plan}
 use Rattle.law.proofs.Rest.{at-rest}
-use Rattle.law.proofs.Runs.{at-end, end-alone, end-fair, end-order}
+use Rattle.law.proofs.Invariant.{at-end, end-alone, end-fair, end-order}
 
 module _ (t : Tree) (G : Geometry t) (ws : Words) (rs : List Record) (e : laid-answer t ws rs ≡ Ok tt) where
   abbrev start : State

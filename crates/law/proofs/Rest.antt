@@ -12,13 +12,13 @@ use Rattle.places.specs.declared.record.Record.{Record}
 use Rattle.queues.specs.Machine.{Tree as Machine-tree, On, Inv, out, hold-level}
 use Rattle.queues.specs.Counters.{total, Load, tries, admits, clears, Count, Marks, shut}
 use Rattle.queues.specs.Counters
-use Rattle.queues.specs.Rows.{Place, Idle, Plan, Lock, view, phase}
-use Rattle.queues.specs.Whole.{Safe, load-of, gate, tally}
+use Rattle.queues.specs.Table.{Place, Idle, Plan, Lock, view, phase}
+use Rattle.queues.specs.Invariant.{Safe, load-of, gate, tally}
 use Rattle.law.proofs.Bridge.{machine-plan, Geometry, Shows}
 use Rattle.law.specs.Rest.{At-rest}
-use Rattle.queues.proofs.Sum.{total-same, total-zero}
-use Rattle.queues.proofs.Steps.{phase-at}
-use Rattle.queues.proofs.Whole.{gate-at, gate-phase}
+use Rattle.queues.proofs.Sums.{total-same, total-zero}
+use Rattle.queues.proofs.QueueRows.{phase-at}
+use Rattle.queues.proofs.CounterRows.{gate-at, gate-phase}
 
 module _ (t : Tree) (G : Geometry t) (s : Lock) (bit : ℕ → ℕ) (v : Safe (t .shape .ranks) (machine-plan t) s bit)
     (all : (p : ℕ) → On (t .shape .ranks) p → s .place p ≡ Idle) where

@@ -19,8 +19,8 @@ use Rattle.places.specs.Records.{recorded}
 use Rattle.lock.specs.Outcomes.{roomy}
 use Rattle.lock.specs.Layouts.{cleared, idled, laid-answer, laid-words, laid-records}
 use Rattle.queues.specs.Machine.{On}
-use Rattle.queues.specs.Rows.{Idle}
-use Rattle.queues.specs.Claim.{fresh-lock}
+use Rattle.queues.specs.Table.{Idle}
+use Rattle.queues.specs.Jobs.{fresh-lock}
 use Rattle.law.proofs.Bridge.{Shows, Geometry}
 
 zeros : (M h o x : ℕ) → On M h → o < 5 → cond (leb 1 h && ltb h (M + 1) && ltb o 5) 0 x ≡ 0

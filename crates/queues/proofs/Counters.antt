@@ -8,8 +8,8 @@ use Rattle.queues.specs.Machine.{On}
 use Rattle.queues.specs.Counters.{total, pick, Load, none, trying, inside, leaving, carrying, clearing, tries, admits}
 use Rattle.queues.specs.Counters.{clears, Gate, shut, raising, checking, reading, wide, lowering, Marks, Keeps, Tally}
 use Rattle.queues.specs.Counters.{write-bit, Count, Counted}
-use Rattle.queues.proofs.Split.{split}
-use Rattle.queues.proofs.Sum.{total-same, total-swap, total-part, pick-same, pick-other}
+use Rattle.queues.proofs.Cases.{split}
+use Rattle.queues.proofs.Sums.{total-same, total-swap, total-part, pick-same, pick-other}
 
 -- one weight of the load l is that of the load m at every counter but c
 abbrev pub Local : Load → Load → ℕ → Type 0

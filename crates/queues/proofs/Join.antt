@@ -7,8 +7,8 @@ use Rattle.std.proofs.shelf.Tests.{cases-eq, cases-order, cases-lt}
 use Rattle.queues.specs.Machine.{Tree, Lawful, On, Phase, out, fresh, clean, ready, link, wait, hold, give, hold-level}
 use Rattle.queues.specs.Machine.{InRange, Waits, Calm, State, Inv, Holder, Member, Heads, Behind, Linking, Waiting}
 use Rattle.queues.specs.Machine.{Asks}
-use Rattle.queues.proofs.Base.{range-of, one-owner, apart, asked, Occupant, occupant}
-use Rattle.queues.proofs.Split.{split}
+use Rattle.queues.proofs.OneHolder.{range-of, one-owner, apart, asked, Occupant, occupant}
+use Rattle.queues.proofs.Cases.{split}
 
 abbrev pub joined : State → (ℕ → Phase) → (ℕ → ℕ) → (ℕ → ℕ → ℕ) → (ℕ → ℕ) → State
 joined s phases tails at next-turn =

@@ -7,9 +7,9 @@ use Rattle.std.proofs.shelf.Tests.{cases-eq}
 use Rattle.queues.specs.Machine.{Tree, Lawful, On, Phase, out, fresh, clean, ready, link, wait, hold, give, hold-level}
 use Rattle.queues.specs.Machine.{InRange, Waits, Calm, State, Inv, Holder, Member, Heads, Behind, Linking, Waiting}
 use Rattle.queues.specs.Machine.{Asks}
-use Rattle.queues.proofs.Base.{range-of, one-owner, apart, asked, one-turn}
-use Rattle.queues.proofs.Split.{split}
-use Rattle.queues.proofs.Private.{prepared}
+use Rattle.queues.proofs.OneHolder.{range-of, one-owner, apart, asked, one-turn}
+use Rattle.queues.proofs.Cases.{split}
+use Rattle.queues.proofs.OwnMoves.{prepared}
 
 pub record Links (T : Tree) (s : State) (p i t : ℕ) (phases : ℕ → Phase) (nexts : ℕ → ℕ) : Type 0 where
   pub after : phases p ≡ wait i

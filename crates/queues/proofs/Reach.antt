@@ -7,9 +7,9 @@ use native.Mathlib.Omega.{arith}
 use Rattle.std.proofs.shelf.Tests.{cases-lt}
 use Rattle.queues.specs.Machine.{On}
 use Rattle.queues.specs.Counters.{total}
-use Rattle.queues.specs.Rows.{Place, Plan, Lock, row}
-use Rattle.queues.specs.Way.{Move, Step, Leave, Accepted, act, play, Plays}
-use Rattle.queues.proofs.Sum.{total-part}
+use Rattle.queues.specs.Table.{Place, Plan, Lock, row}
+use Rattle.queues.specs.Moves.{Move, Step, Leave, Accepted, act, play, Plays}
+use Rattle.queues.proofs.Sums.{total-part}
 
 -- by some accepted moves the lock comes to a state with Q
 pub data Reach (P : ℕ) (L : Plan) (Q : Lock → Type 0) : Lock → Type 0 where

@@ -36,19 +36,20 @@ use Rattle.places.specs.declared.record.Record.{Record}
 use Rattle.lock.specs.Outcomes.{Outcome, placed, refused}
 use Rattle.lock.specs.Steps.{followed, row-next, row-words, stepped-from, stepped-to}
 use Rattle.queues.specs.Machine.{On}
-use Rattle.queues.specs.Rows.{Place, Idle, W1, W2, W3, W4, W5, W6, W7, W8, W9, U1, U2, U3, U4, U5, U6, U7, U8, U9, U10}
-use Rattle.queues.specs.Rows.{R1, R2, R3, R4, R5, R6, R7, Writer, Reader, WAIT, told-status, Plan, Lock, upd, go}
-use Rattle.queues.specs.Rows.{put-next}
-use Rattle.queues.specs.Rows.{put-status}
-use Rattle.queues.specs.Rows.{put-arrive, put-depart, join, drop, free, done, next, row, Sound, Counts}
-use Rattle.queues.specs.Whole.{Safe}
-use Rattle.queues.proofs.View.{upd-same, upd-other, told-large}
+use Rattle.queues.specs.Table.{Place, Idle, W1, W2, W3, W4, W5, W6, W7, W8, W9, U1, U2, U3, U4, U5, U6, U7, U8, U9}
+use Rattle.queues.specs.Table.{U10}
+use Rattle.queues.specs.Table.{R1, R2, R3, R4, R5, R6, R7, Writer, Reader, WAIT, told-status, Plan, Lock, upd, go}
+use Rattle.queues.specs.Table.{put-next}
+use Rattle.queues.specs.Table.{put-status}
+use Rattle.queues.specs.Table.{put-arrive, put-depart, join, drop, free, done, next, row, Sound, Counts}
+use Rattle.queues.specs.Invariant.{Safe}
+use Rattle.queues.proofs.Phases.{upd-same, upd-other, told-large}
 use Rattle.law.proofs.Bridge.{machine-plan, Geometry, Ranged, Shows, Stepped, Goes, gives, effect}
-use Rattle.law.proofs.Shows.{done-by, shows-next, shows-status, shows-join, shows-free, shows-drop, shows-go}
-use Rattle.law.proofs.Shows.{shows-stay}
-use Rattle.law.proofs.Shows.{shows-arrive, shows-depart}
-use Rattle.law.proofs.Ranged.{ranged, reaches, Reach}
-use Rattle.law.proofs.Bounds.{small, at-U7, at-R2, at-R6}
+use Rattle.law.proofs.Writes.{done-by, shows-next, shows-status, shows-join, shows-free, shows-drop, shows-go}
+use Rattle.law.proofs.Writes.{shows-stay}
+use Rattle.law.proofs.Writes.{shows-arrive, shows-depart}
+use Rattle.law.proofs.InRange.{ranged, reaches, Reach}
+use Rattle.law.proofs.NoWrap.{small, at-U7, at-R2, at-R6}
 
 own-of : (P p x : ℕ) → On P p → x ≡ cond (within 1 P p) x 0
 own-of P p x o = grind (arith, tells)

@@ -8,13 +8,13 @@ use lib.Dec.{leb}
 use native.Mathlib.Omega.{arith}
 use Rattle.std.proofs.shelf.Ways.{tells}
 use Rattle.queues.specs.Machine.{On}
-use Rattle.queues.specs.Rows.{Place, Writer, Reader, R7, U1, U4, Plan, Lock, go}
-use Rattle.queues.specs.Whole.{Safe}
-use Rattle.queues.specs.Claim.{Jobs, stepped, left-write, left-read}
-use Rattle.queues.specs.Way.{Move, Step, Leave, In, exit, Accepted, act, play, Plays, AtRest, Apt}
+use Rattle.queues.specs.Table.{Place, Writer, Reader, R7, U1, U4, Plan, Lock, go}
+use Rattle.queues.specs.Invariant.{Safe}
+use Rattle.queues.specs.Jobs.{Jobs, stepped, left-write, left-read}
+use Rattle.queues.specs.Moves.{Move, Step, Leave, In, exit, Accepted, act, play, Plays, AtRest, Apt}
 use Rattle.queues.proofs.Reach.{Reach, here, move, as-list}
-use Rattle.queues.proofs.Home.{Good, good-step, good-leave-read, good-leave-write}
-use Rattle.queues.proofs.Rest.{back}
+use Rattle.queues.proofs.FirstStage.{Good, good-step, good-leave-read, good-leave-write}
+use Rattle.queues.proofs.ThirdStage.{back}
 
 in-is : (f : Place) → In f → (f ≡ Writer) ⊎ (f ≡ Reader)
 in-is f h = grind (arith, tells)

@@ -8,11 +8,11 @@ use lib.Dec.{eqb, leb}
 use lib.ListN.{length, length-append}
 use native.Mathlib.Omega.{arith}
 use Rattle.std.proofs.shelf.Tests.{cases-eq, eq-eqb, ne-eqb}
-use Rattle.queues.specs.Rows.{upd}
+use Rattle.queues.specs.Table.{upd}
 use Rattle.law.specs.History.{History, more}
 use Rattle.law.specs.Order.{Front, Ordered}
-use Rattle.queues.proofs.View.{upd-same, upd-other}
-use Rattle.queues.proofs.Split.{split}
+use Rattle.queues.proofs.Phases.{upd-same, upd-other}
+use Rattle.queues.proofs.Cases.{split}
 
 -- the first n turns
 abbrev pub turns : (ℕ → ℕ) → ℕ → List ℕ

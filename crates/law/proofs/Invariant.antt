@@ -31,14 +31,14 @@ use Rattle.lock.specs.Outcomes.{Outcome, record-at, refused, roomy}
 use Rattle.lock.specs.Steps.{stepped, stepped-from}
 use Rattle.lock.specs.Turns.{Turn, asked, asked-at, exit-of, left, left-at, turn-from, turn-of, turned, unchanged}
 use Rattle.queues.specs.Machine.{On}
-use Rattle.queues.specs.Rows.{Place, Idle, W1, U1, U4, R1, R7, Writer, Reader, Plan, Lock, go, upd, row}
-use Rattle.queues.specs.Whole.{Safe}
-use Rattle.queues.specs.Claim.{fresh-lock, Sensible}
-use Rattle.queues.proofs.View.{upd-same, upd-other}
-use Rattle.queues.proofs.Split.{split}
-use Rattle.queues.proofs.Steps.{one-writer}
-use Rattle.queues.proofs.Whole.{bits, safe-row, safe-ask-write, safe-ask-read, safe-leave-write, safe-leave-read}
-use Rattle.queues.proofs.Whole.{safe-start, no-reader}
+use Rattle.queues.specs.Table.{Place, Idle, W1, U1, U4, R1, R7, Writer, Reader, Plan, Lock, go, upd, row}
+use Rattle.queues.specs.Invariant.{Safe}
+use Rattle.queues.specs.Jobs.{fresh-lock, Sensible}
+use Rattle.queues.proofs.Phases.{upd-same, upd-other}
+use Rattle.queues.proofs.Cases.{split}
+use Rattle.queues.proofs.QueueRows.{one-writer}
+use Rattle.queues.proofs.CounterRows.{bits, safe-row, safe-ask-write, safe-ask-read, safe-leave-write, safe-leave-read}
+use Rattle.queues.proofs.CounterRows.{safe-start, no-reader}
 use Rattle.law.specs.Calls.{State, state, called, with-words, laid, ran, answers}
 use Rattle.law.specs.Exclusion.{Alone}
 use Rattle.law.specs.History.{History, adds-from, written-down, history, nothing}
@@ -48,13 +48,13 @@ use Rattle.law.specs.Presence.{Role, writer, reader, Presence, told, noted, se
 use Rattle.law.specs.declared.call.Call.{Call}
 use Rattle.law.specs.declared.call.Call.the-variants.{AskWrite, AskRead, Step, Leave}
 use Rattle.law.proofs.Bridge.{machine-plan, Geometry, Shows, Stepped}
-use Rattle.law.proofs.Links.{Link, Linked, linked, at-writes, at-inside, Rests, rested, Frees, freed}
-use Rattle.law.proofs.Order.{traced}
-use Rattle.law.proofs.Ranged.{ranged, fits-ranged}
-use Rattle.law.proofs.Shows.{shows-go}
+use Rattle.law.proofs.PresenceByPlace.{Link, Linked, linked, at-writes, at-inside, Rests, rested, Frees, freed}
+use Rattle.law.proofs.RowsTellHistory.{traced}
+use Rattle.law.proofs.InRange.{ranged, fits-ranged}
+use Rattle.law.proofs.Writes.{shows-go}
 use Rattle.law.proofs.Start.{shows-start}
-use Rattle.law.proofs.Turns.{Traces, ordered}
-use Rattle.law.proofs.Lift.{lifted}
+use Rattle.law.proofs.HistoryByTurns.{Traces, ordered}
+use Rattle.law.proofs.StepsAreRows.{lifted}
 
 -- what holds between the calls of a job
 pub record Holds (t : Tree) (ws : Words) (rs : List Record) (w : Presence) (h : History) (lock : Lock) (bit : ℕ → ℕ) :

@@ -8,8 +8,8 @@ use native.Mathlib.Omega.{arith}
 use Rattle.queues.specs.Machine.{Tree, Lawful, On, Phase, out, fresh, clean, ready, link, wait, hold, give, hold-level}
 use Rattle.queues.specs.Machine.{InRange, Waits, Calm, State, Inv, Holder, Member, Heads, Behind, Linking, Waiting}
 use Rattle.queues.specs.Machine.{Asks}
-use Rattle.queues.proofs.Base.{range-of, one-owner, apart}
-use Rattle.queues.proofs.Split.{split}
+use Rattle.queues.proofs.OneHolder.{range-of, one-owner, apart}
+use Rattle.queues.proofs.Cases.{split}
 
 abbrev pub prepared : State → (ℕ → Phase) → (ℕ → ℕ) → State
 prepared s phases nexts =

@@ -17,11 +17,12 @@ use Rattle.places.specs.declared.place.Standing.the-variants.{UnderWay}
 use Rattle.places.specs.declared.record.Record.{Record}
 use Rattle.lock.specs.Turns.{exit-of}
 use Rattle.queues.specs.Machine.{On}
-use Rattle.queues.specs.Rows.{Place, Idle, W1, W2, W3, W4, W5, W6, W7, W8, W9, U1, U2, U3, U4, U5, U6, U7, U8, U9, U10}
-use Rattle.queues.specs.Rows.{R1, R2, R3, R4, R5, R6, R7, Writer, Reader, Plan, Lock, go, row}
-use Rattle.queues.specs.Way.{Accepted, Accepts, AtRest, In, Leave as leave-move, Move, Step as step-move, act, exit}
-use Rattle.queues.proofs.Home.{Good}
-use Rattle.queues.proofs.Onto.{Oks, back-onto, calls}
+use Rattle.queues.specs.Table.{Place, Idle, W1, W2, W3, W4, W5, W6, W7, W8, W9, U1, U2, U3, U4, U5, U6, U7, U8, U9}
+use Rattle.queues.specs.Table.{U10}
+use Rattle.queues.specs.Table.{R1, R2, R3, R4, R5, R6, R7, Writer, Reader, Plan, Lock, go, row}
+use Rattle.queues.specs.Moves.{Accepted, Accepts, AtRest, In, Leave as leave-move, Move, Step as step-move, act, exit}
+use Rattle.queues.proofs.FirstStage.{Good}
+use Rattle.queues.proofs.OntoCalls.{Oks, back-onto, calls}
 use Rattle.law.specs.Calls.{State, after, answer-to, answers, called, ran, state}
 use Rattle.law.specs.History.{History, written-down}
 use Rattle.law.specs.Presence.{Presence, seen, told}
@@ -29,7 +30,7 @@ use Rattle.law.specs.WayBack.{No-asks}
 use Rattle.law.specs.declared.call.Call.{Call}
 use Rattle.law.specs.declared.call.Call.the-variants.{AskWrite, AskRead, Step, Leave}
 use Rattle.law.proofs.Bridge.{Geometry, machine-plan}
-use Rattle.law.proofs.Runs.{Holds, does-leave-read, does-leave-write, does-row, exit-is}
+use Rattle.law.proofs.Invariant.{Holds, does-leave-read, does-leave-write, does-row, exit-is}
 
 -- a move of the machine as a call
 abbrev pub as-call : Move → Call

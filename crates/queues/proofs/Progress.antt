@@ -9,14 +9,14 @@ use Rattle.std.proofs.shelf.Tests.{cases-eq, cond-both, eq-eqb, ne-eqb, le-leb,
 use Rattle.std.proofs.shelf.Tests.{eqb-false, ltb-true, ltb-false}
 use Rattle.queues.specs.Machine.{Tree, Lawful, On, Phase, out, fresh, clean, ready, link, wait, hold, give, hold-level}
 use Rattle.queues.specs.Machine.{InRange, Waits, State, Inv, Holder, Member, Heads, Behind, Waiting}
-use Rattle.queues.specs.Rows.{Place, Idle, W1, W2, W3, W4, W5, W6, W7, W8, W9, U1, U2, U3, U4, U5, U6, U7, U8, U9}
-use Rattle.queues.specs.Rows.{U10, R1, R2, R3, R4, R5, R6, R7, Writer, Reader, WAIT, told-status, Plan, Lock, upd}
-use Rattle.queues.specs.Rows.{phase, go}
-use Rattle.queues.specs.Rows.{row, done, next}
+use Rattle.queues.specs.Table.{Place, Idle, W1, W2, W3, W4, W5, W6, W7, W8, W9, U1, U2, U3, U4, U5, U6, U7, U8, U9}
+use Rattle.queues.specs.Table.{U10, R1, R2, R3, R4, R5, R6, R7, Writer, Reader, WAIT, told-status, Plan, Lock, upd}
+use Rattle.queues.specs.Table.{phase, go}
+use Rattle.queues.specs.Table.{row, done, next}
 use Rattle.queues.specs.Counters.{total, tries, admits, clears, Tally, Counted}
-use Rattle.queues.proofs.Base.{asked, waits-cases, turn-is}
-use Rattle.queues.proofs.Sum.{total-same, total-zero, total-swap}
-use Rattle.queues.proofs.View.{upd-same, told-large}
+use Rattle.queues.proofs.OneHolder.{asked, waits-cases, turn-is}
+use Rattle.queues.proofs.Sums.{total-same, total-zero, total-swap}
+use Rattle.queues.proofs.Phases.{upd-same, told-large}
 
 -- does a phase wait for a STATUS
 pub waits-or : (f : Phase) → ((i : ℕ) × (f ≡ wait i)) ⊎ ((i : ℕ) → f ≢ wait i)

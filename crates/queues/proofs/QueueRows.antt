@@ -9,23 +9,23 @@ use Rattle.std.proofs.shelf.Tests.{cases-eq, cases-order, cases-bool, cond-both
 use Rattle.std.proofs.shelf.Tests.{leb-true, leb-false, ltb-true}
 use Rattle.queues.specs.Machine.{Tree, Lawful, On, Phase, out, fresh, clean, ready, link, wait, hold, give, hold-level}
 use Rattle.queues.specs.Machine.{InRange, Waits, Calm, Asks, State, Inv}
-use Rattle.queues.specs.Rows.{Place, Idle, W1, W2, W3, W4, W5, W6, W7, W8, W9, U1, U2, U3, U4, U5, U6, U7, U8, U9}
-use Rattle.queues.specs.Rows.{U10, R1, R2, R3, R4, R5, R6, R7, Writer, Reader, WAIT, told-status, Plan, Lock, upd}
-use Rattle.queues.specs.Rows.{phase-of}
-use Rattle.queues.specs.Rows.{status-level, phase, view, Counts, Sound, Fine, go, put-next, put-status, join, drop}
-use Rattle.queues.specs.Rows.{free}
-use Rattle.queues.specs.Rows.{done}
-use Rattle.queues.specs.Rows.{next, row, step}
-use Rattle.queues.specs.Claim.{fresh-lock}
-use Rattle.queues.proofs.Base.{one-owner, one-holder, range-of, asked, Successor, successor}
-use Rattle.queues.proofs.Split.{split, split₂, calm-asks, calm-waits}
-use Rattle.queues.proofs.Private.{Prepares, prepared, Mine, kept-by}
+use Rattle.queues.specs.Table.{Place, Idle, W1, W2, W3, W4, W5, W6, W7, W8, W9, U1, U2, U3, U4, U5, U6, U7, U8, U9}
+use Rattle.queues.specs.Table.{U10, R1, R2, R3, R4, R5, R6, R7, Writer, Reader, WAIT, told-status, Plan, Lock, upd}
+use Rattle.queues.specs.Table.{phase-of}
+use Rattle.queues.specs.Table.{status-level, phase, view, Counts, Sound, Fine, go, put-next, put-status, join, drop}
+use Rattle.queues.specs.Table.{free}
+use Rattle.queues.specs.Table.{done}
+use Rattle.queues.specs.Table.{next, row, step}
+use Rattle.queues.specs.Jobs.{fresh-lock}
+use Rattle.queues.proofs.OneHolder.{one-owner, one-holder, range-of, asked, Successor, successor}
+use Rattle.queues.proofs.Cases.{split, split₂, calm-asks, calm-waits}
+use Rattle.queues.proofs.OwnMoves.{Prepares, prepared, Mine, kept-by}
 use Rattle.queues.proofs.Link.{Links, linked-up}
 use Rattle.queues.proofs.Join.{Joins, joined, joined-up}
-use Rattle.queues.proofs.Hand.{Passes, passed, handed}
-use Rattle.queues.proofs.Retire.{Frees, freed, retired}
-use Rattle.queues.proofs.View.{upd-same, upd-other, phase-same, w5-wait, w5-count, w5-told, told-large, w5-level}
-use Rattle.queues.proofs.View.{sound-same}
+use Rattle.queues.proofs.HandOver.{Passes, passed, handed}
+use Rattle.queues.proofs.Release.{Frees, freed, retired}
+use Rattle.queues.proofs.Phases.{upd-same, upd-other, phase-same, w5-wait, w5-count, w5-told, told-large, w5-level}
+use Rattle.queues.proofs.Phases.{sound-same}
 
 -- the phase of a rank whose place is known
 pub phase-at : (T : Tree) (s : Lock) (p : ℕ) (f : Place) → s .place p ≡ f

@@ -10,20 +10,20 @@ use Rattle.std.proofs.shelf.Ways.{tells}
 use Rattle.queues.specs.Machine.{Tree, Lawful, On, Phase, out, fresh, clean, ready, link, wait, hold, give, hold-level}
 use Rattle.queues.specs.Machine.{InRange, Waits, State, Inv}
 use Rattle.queues.specs.Counters.{total, tries, admits, clears, Marks}
-use Rattle.queues.specs.Rows.{Place, Idle, W1, W2, W3, W4, W5, W6, W7, W8, W9, U1, U2, U3, U4, U5, U6, U7, U8, U9}
-use Rattle.queues.specs.Rows.{U10, R1, R2, R3, R4, R5, R6, R7, Writer, Reader, WAIT, told-status, Plan, Lock, upd}
-use Rattle.queues.specs.Rows.{phase-of}
-use Rattle.queues.specs.Rows.{status-level, phase, view, Sound, Fine, go, row}
-use Rattle.queues.specs.Whole.{load-of, Within, Safe, tally}
-use Rattle.queues.specs.Way.{tag, Move, Step, Leave, Accepted, act, Apt}
-use Rattle.queues.proofs.Base.{one-holder}
-use Rattle.queues.proofs.Split.{split}
-use Rattle.queues.proofs.View.{upd-same, upd-other}
-use Rattle.queues.proofs.Steps.{phase-at}
-use Rattle.queues.proofs.Whole.{gate-at}
-use Rattle.queues.proofs.Back.{Able, waits-or, Mover, mover, Follower, follower, passes}
+use Rattle.queues.specs.Table.{Place, Idle, W1, W2, W3, W4, W5, W6, W7, W8, W9, U1, U2, U3, U4, U5, U6, U7, U8, U9}
+use Rattle.queues.specs.Table.{U10, R1, R2, R3, R4, R5, R6, R7, Writer, Reader, WAIT, told-status, Plan, Lock, upd}
+use Rattle.queues.specs.Table.{phase-of}
+use Rattle.queues.specs.Table.{status-level, phase, view, Sound, Fine, go, row}
+use Rattle.queues.specs.Invariant.{load-of, Within, Safe, tally}
+use Rattle.queues.specs.Moves.{tag, Move, Step, Leave, Accepted, act, Apt}
+use Rattle.queues.proofs.OneHolder.{one-holder}
+use Rattle.queues.proofs.Cases.{split}
+use Rattle.queues.proofs.Phases.{upd-same, upd-other}
+use Rattle.queues.proofs.QueueRows.{phase-at}
+use Rattle.queues.proofs.CounterRows.{gate-at}
+use Rattle.queues.proofs.Progress.{Able, waits-or, Mover, mover, Follower, follower, passes}
 use Rattle.queues.proofs.Reach.{Reach, here, move, onwards, Sum, Lower, Done, descend}
-use Rattle.queues.proofs.Home.{Good, Busy, stage-1, row-other, by-step, by-leave-write, lowers}
+use Rattle.queues.proofs.FirstStage.{Good, Busy, stage-1, row-other, by-step, by-leave-write, lowers}
 
 abbrev NoWait : Phase → Type 0
 NoWait out = Unit {0}

@@ -23,7 +23,7 @@ use Rattle.queues.specs.Machine.{On, Lawful}
 use Rattle.law.proofs.Bridge.{machine-plan, Geometry}
 use Rattle.law.proofs.Numbers.{Sized}
 use Rattle.law.proofs.Levels.{Rooted, by-climbing}
-use Rattle.law.proofs.Laws.{Hung, lawful, sized}
+use Rattle.law.proofs.TreeLaws.{Hung, lawful, sized}
 use Rattle.law.proofs.Counting.{counted}
 
 parent-parts : (ps : List ℕ) (lev : ℕ → ℕ) (N k : ℕ) → 2 ≤ k

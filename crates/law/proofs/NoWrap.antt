@@ -8,11 +8,11 @@ use Rattle.std.proofs.shelf.Ways.{tells}
 use Rattle.plan.specs.Trees.{Tree, counters}
 use Rattle.queues.specs.Machine.{On}
 use Rattle.queues.specs.Counters.{total, pick, Load, tries, admits, clears, write-bit, Count}
-use Rattle.queues.specs.Rows.{Place, U7, R2, R6, Plan, Lock}
-use Rattle.queues.specs.Whole.{Safe, load-of, gate, tally}
+use Rattle.queues.specs.Table.{Place, U7, R2, R6, Plan, Lock}
+use Rattle.queues.specs.Invariant.{Safe, load-of, gate, tally}
 use Rattle.law.proofs.Bridge.{machine-plan, Geometry}
-use Rattle.queues.proofs.Sum.{total-part, pick-same}
-use Rattle.queues.proofs.Whole.{gate-at}
+use Rattle.queues.proofs.Sums.{total-part, pick-same}
+use Rattle.queues.proofs.CounterRows.{gate-at}
 
 total-le : (n : ℕ) (f : ℕ → ℕ) → ((q : ℕ) → f q ≤ 1) → total n f ≤ n
 unfolding total

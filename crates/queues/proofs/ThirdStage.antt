@@ -10,20 +10,21 @@ use Rattle.std.proofs.shelf.Tests.{cases-eq, cases-lt, eq-eqb, lt-ltb, le-ltb, 
 use Rattle.std.proofs.shelf.Ways.{tells}
 use Rattle.queues.specs.Machine.{Tree, Lawful, On, Phase, out, hold-level, InRange, State, Inv, Holder}
 use Rattle.queues.specs.Counters.{total, tries, admits, clears, Marks, shut, none}
-use Rattle.queues.specs.Rows.{Place, Idle, W1, W2, W3, W4, W5, W6, W7, W8, W9, U1, U2, U3, U4, U5, U6, U7, U8, U9}
-use Rattle.queues.specs.Rows.{U10, R1, R2, R3, R4, R5, R6, R7, Writer, Reader, Plan, Lock, upd, phase-of, status-level}
-use Rattle.queues.specs.Rows.{phase, view, go, put-arrive, put-depart, row}
-use Rattle.queues.specs.Whole.{load-of, gate, Within, Safe}
-use Rattle.queues.specs.Claim.{Jobs}
-use Rattle.queues.specs.Way.{tag, Move, Plays, play, AtRest, Apt, WayBack}
-use Rattle.queues.proofs.Sum.{total-same, total-zero}
-use Rattle.queues.proofs.Split.{split}
-use Rattle.queues.proofs.View.{upd-same, upd-other}
-use Rattle.queues.proofs.Steps.{phase-at}
-use Rattle.queues.proofs.Whole.{gate-at, gate-phase, safe-job}
+use Rattle.queues.specs.Table.{Place, Idle, W1, W2, W3, W4, W5, W6, W7, W8, W9, U1, U2, U3, U4, U5, U6, U7, U8, U9}
+use Rattle.queues.specs.Table.{U10, R1, R2, R3, R4, R5, R6, R7, Writer, Reader, Plan, Lock, upd, phase-of}
+use Rattle.queues.specs.Table.{status-level}
+use Rattle.queues.specs.Table.{phase, view, go, put-arrive, put-depart, row}
+use Rattle.queues.specs.Invariant.{load-of, gate, Within, Safe}
+use Rattle.queues.specs.Jobs.{Jobs}
+use Rattle.queues.specs.Moves.{tag, Move, Plays, play, AtRest, Apt, WayBack}
+use Rattle.queues.proofs.Sums.{total-same, total-zero}
+use Rattle.queues.proofs.Cases.{split}
+use Rattle.queues.proofs.Phases.{upd-same, upd-other}
+use Rattle.queues.proofs.QueueRows.{phase-at}
+use Rattle.queues.proofs.CounterRows.{gate-at, gate-phase, safe-job}
 use Rattle.queues.proofs.Reach.{Reach, here, as-list, onwards, Sum, Lower, Done, descend}
-use Rattle.queues.proofs.Home.{Good, stage-1, row-other, by-step, by-leave-read, lowers, stage-one}
-use Rattle.queues.proofs.Writers.{number, Quiet, stage-2, stage-two}
+use Rattle.queues.proofs.FirstStage.{Good, stage-1, row-other, by-step, by-leave-read, lowers, stage-one}
+use Rattle.queues.proofs.SecondStage.{number, Quiet, stage-2, stage-two}
 
 abbrev Still : Place → Type 0
 Still f = (f ≡ Idle) ⊎ (f ≡ R3)

@@ -13,17 +13,17 @@ use Rattle.memory.specs.Words.{Words}
 use Rattle.plan.specs.Trees.{Tree, node-home, own-level, queue-home}
 use Rattle.places.specs.declared.record.Record.{Record}
 use Rattle.queues.specs.Machine.{Tree as Machine-tree, On, Inv, Heads, hold, give, hold-level, InRange}
-use Rattle.queues.specs.Rows.{Place, Idle, W1, W2, W3, W4, W5, W6, W7, W8, W9, U1, U2, U3, U4, U5, U6, U7, U8, U9}
-use Rattle.queues.specs.Rows.{U10, R1, R2, R3, R4, R5, R6, R7, Writer, Reader, WAIT, told-status, Plan, Lock, go}
-use Rattle.queues.specs.Rows.{free, done}
-use Rattle.queues.specs.Rows.{row, upd, view, phase}
-use Rattle.queues.specs.Whole.{Safe}
+use Rattle.queues.specs.Table.{Place, Idle, W1, W2, W3, W4, W5, W6, W7, W8, W9, U1, U2, U3, U4, U5, U6, U7, U8, U9}
+use Rattle.queues.specs.Table.{U10, R1, R2, R3, R4, R5, R6, R7, Writer, Reader, WAIT, told-status, Plan, Lock, go}
+use Rattle.queues.specs.Table.{free, done}
+use Rattle.queues.specs.Table.{row, upd, view, phase}
+use Rattle.queues.specs.Invariant.{Safe}
 use Rattle.law.proofs.Bridge.{machine-plan, Geometry, Shows}
 use Rattle.law.specs.History.{History, adds, hands-over, joins, more, stops}
-use Rattle.queues.proofs.Base.{occupant, successor, Successor, range-of}
-use Rattle.queues.proofs.Steps.{phase-at}
-use Rattle.law.proofs.Ranged.{ranged}
-use Rattle.law.proofs.Turns.{Traces, traces-join, traces-pass, traces-free}
+use Rattle.queues.proofs.OneHolder.{occupant, successor, Successor, range-of}
+use Rattle.queues.proofs.QueueRows.{phase-at}
+use Rattle.law.proofs.InRange.{ranged}
+use Rattle.law.proofs.HistoryByTurns.{Traces, traces-join, traces-pass, traces-free}
 
 module _ (t : Tree) (G : Geometry t) (ws : Words) (rs : List Record) (s : Lock) (bit : ℕ → ℕ)
     (v : Safe (t .shape .ranks) (machine-plan t) s bit) (sh : Shows t ws rs s) (p : ℕ) (on : On (t .shape .ranks) p)

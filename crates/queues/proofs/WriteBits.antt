@@ -7,7 +7,7 @@ use Rattle.queues.specs.Machine.{On}
 use Rattle.queues.specs.Counters.{total, pick, Load, none, trying, inside, leaving, carrying, clearing, tries, admits}
 use Rattle.queues.specs.Counters.{clears, Gate, shut, raising, checking, reading, wide, lowering, Marks, Keeps, Tally}
 use Rattle.queues.specs.Counters.{write-bit, Count, Counted}
-use Rattle.queues.proofs.Split.{split, split₂}
+use Rattle.queues.proofs.Cases.{split, split₂}
 use Rattle.queues.proofs.Counters.{Shift, moves, away}
 
 abbrev NotWide : Gate → Type 0

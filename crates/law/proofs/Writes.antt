@@ -20,11 +20,11 @@ use Rattle.plan.specs.Trees.{Tree, counters, counter-home, homes}
 use Rattle.places.specs.declared.record.Record.{Record}
 use Rattle.places.specs.Records.{recorded}
 use Rattle.queues.specs.Machine.{On}
-use Rattle.queues.specs.Rows.{Place, Idle, Lock, upd, go, put-next, put-status, put-arrive, put-depart, join, drop}
-use Rattle.queues.specs.Rows.{free}
+use Rattle.queues.specs.Table.{Place, Idle, Lock, upd, go, put-next, put-status, put-arrive, put-depart, join, drop}
+use Rattle.queues.specs.Table.{free}
 use Rattle.law.proofs.Bridge.{Shows, Geometry, gives, effect}
-use Rattle.queues.proofs.View.{upd-same, upd-other}
-use Rattle.queues.proofs.Split.{split}
+use Rattle.queues.proofs.Phases.{upd-same, upd-other}
+use Rattle.queues.proofs.Cases.{split}
 
 -- an operation at a home of the memory is not refused
 pub resolved : {A : Type 0} (count h o : ℕ) (x : A) (f : Refusal → A) → On count h → o ≤ 4 → refusing count h o f x ≡ x

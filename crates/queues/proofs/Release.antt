@@ -7,8 +7,8 @@ use Rattle.std.proofs.shelf.Tests.{cases-eq, cases-order}
 use Rattle.queues.specs.Machine.{Tree, Lawful, On, Phase, out, fresh, clean, ready, link, wait, hold, give, hold-level}
 use Rattle.queues.specs.Machine.{InRange, Waits, Calm, State, Inv, Holder, Member, Heads, Behind, Linking, Waiting}
 use Rattle.queues.specs.Machine.{Asks}
-use Rattle.queues.proofs.Base.{range-of, one-holder, one-owner, waits-level, waits-on}
-use Rattle.queues.proofs.Split.{split, calm-asks}
+use Rattle.queues.proofs.OneHolder.{range-of, one-holder, one-owner, waits-level, waits-on}
+use Rattle.queues.proofs.Cases.{split, calm-asks}
 
 abbrev pub freed : State → (ℕ → Phase) → (ℕ → ℕ) → (ℕ → ℕ) → State
 freed s phases tails head-turn =

@@ -16,13 +16,13 @@ use Rattle.places.specs.declared.access.Access.{Access}
 use Rattle.places.specs.Records.{fits}
 use Rattle.places.specs.Table.{access-of}
 use Rattle.queues.specs.Machine.{Tree as Machine-tree, On, InRange, Inv, link, give, Linking}
-use Rattle.queues.specs.Rows.{Place, Idle, W1, W2, W3, W4, W5, W6, W7, W8, W9, U1, U2, U3, U4, U5, U6, U7, U8, U9}
-use Rattle.queues.specs.Rows.{U10, R1, R2, R3, R4, R5, R6, R7, Writer, Reader, Plan, Lock, view, phase, phase-of}
-use Rattle.queues.specs.Rows.{status-level, Sound}
-use Rattle.queues.specs.Whole.{Safe, Within}
+use Rattle.queues.specs.Table.{Place, Idle, W1, W2, W3, W4, W5, W6, W7, W8, W9, U1, U2, U3, U4, U5, U6, U7, U8, U9}
+use Rattle.queues.specs.Table.{U10, R1, R2, R3, R4, R5, R6, R7, Writer, Reader, Plan, Lock, view, phase, phase-of}
+use Rattle.queues.specs.Table.{status-level, Sound}
+use Rattle.queues.specs.Invariant.{Safe, Within}
 use Rattle.law.proofs.Bridge.{machine-plan, Geometry, Ranged}
-use Rattle.queues.proofs.Base.{asked, occupant, successor}
-use Rattle.queues.proofs.Steps.{phase-at}
+use Rattle.queues.proofs.OneHolder.{asked, occupant, successor}
+use Rattle.queues.proofs.QueueRows.{phase-at}
 
 -- a field in range passes the record's test
 from-on : (low high n : ℕ) → low ≤ n → n ≤ high → within low high n ≡ true
