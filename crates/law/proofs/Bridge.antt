@@ -1,15 +1,13 @@
 -- How words and records show a state of the abstract machine, and what a lawful plan says of its homes.
-use Prim.Native.Nat.{ℕ, suc, _+_, _-_, _%_, _^_, _≤_, _<_}
+use Prim.Native.Nat.{ℕ, _+_, _-_, _%_, _^_, _≤_, _<_}
 use mathlib.Core.Bool.{cond}
 use mathlib.Core.List.{List}
 use mathlib.Core.Logic.{_≢_}
 use mathlib.Core.Path.{_≡_}
 use lib.Dec.{eqb}
-use lib.ListN.{length, getD}
-use Rattle.std.specs.declared.option.Option.{Option}
-use Rattle.std.specs.declared.option.Option.the-variants.{Some, None}
+use lib.ListN.{length}
 use Rattle.std.specs.declared.result.Result.{Result}
-use Rattle.std.specs.declared.result.Result.the-variants.{Ok, Err}
+use Rattle.std.specs.declared.result.Result.the-variants.{Ok}
 use Rattle.refusal.specs.declared.Refusal.{Refusal}
 use Rattle.memory.specs.Words.{Words, storing}
 use Rattle.memory.specs.declared.operations.Operation.{Operation}
@@ -18,15 +16,13 @@ use Rattle.plan.specs.Trees.{Tree, counter-home, counters, element-at, element-
 use Rattle.plan.specs.Trees.{own-counter, own-level, queue-home, threshold}
 use Rattle.places.specs.Records.{recorded}
 use Rattle.places.specs.Table.{next-of}
-use Rattle.places.specs.declared.access.Access.{Access}
 use Rattle.places.specs.declared.answer.Answer.{Answer}
 use Rattle.places.specs.declared.follow.Next.{Next}
 use Rattle.places.specs.declared.record.Record.{Record}
 use Rattle.lock.specs.Outcomes.{Outcome, record-at}
 use Rattle.queues.specs.Machine.{On}
 use Rattle.queues.specs.Table.{Place, Idle, W1, W2, W3, W4, W5, W6, W7, W8, W9, U1, U2, U3, U4, U5, U6, U7, U8, U9}
-use Rattle.queues.specs.Table.{U10}
-use Rattle.queues.specs.Table.{R1, R2, R3, R4, R5, R6, R7, Writer, Reader, Plan, Lock}
+use Rattle.queues.specs.Table.{U10, R1, R2, R3, R4, R5, R6, R7, Writer, Reader, Plan, Lock}
 use Rattle.queues.specs.Moves.{Apt}
 
 -- a plan as the abstract machine sees it; an element goes by its home

@@ -1,21 +1,18 @@
 -- Under the invariant no step is refused: all fields and homes are in range.
-use Prim.Native.Nat.{ℕ, zero, suc, pred, _+_, _-_, _*_, _/_, _%_, _^_, _≤_, _<_}
-use mathlib.Core.Path.{_≡_, refl, sym, _∙_, ap, subst}
-use mathlib.Core.Logic.{_⊎_, inl, inr, _≢_, ⊎-elim}
-use mathlib.Core.Bool.{Bool, true, false, cond, _&&_}
-use lib.Dec.{eqb, leb, ltb}
+use Prim.Native.Nat.{ℕ, _≤_}
+use mathlib.Core.Path.{_≡_, refl, sym, _∙_, subst}
+use mathlib.Core.Bool.{true}
+use lib.Dec.{leb}
 use native.Mathlib.Omega.{arith}
 use Rattle.std.specs.declared.option.Option.{Option}
 use Rattle.std.specs.declared.option.Option.the-variants.{Some, None}
-use Rattle.std.proofs.shelf.Ways.{tells}
 use Rattle.std.proofs.shelf.Tests.{and-from, le-leb, lt-ltb}
 use Rattle.plan.specs.Shapes.{within}
-use Rattle.plan.specs.Trees.{Tree, counters, homes, node-home, own-counter, own-counter-home, own-level, queue-home}
-use Rattle.plan.specs.Trees.{element-home}
+use Rattle.plan.specs.Trees.{Tree, counters, homes, node-home, own-counter, own-counter-home, own-level, element-home}
 use Rattle.places.specs.declared.access.Access.{Access}
 use Rattle.places.specs.Records.{fits}
 use Rattle.places.specs.Table.{access-of}
-use Rattle.queues.specs.Machine.{Tree as Machine-tree, On, InRange, Inv, link, give, Linking}
+use Rattle.queues.specs.Machine.{Tree as Machine-tree, On, InRange, Inv, link, give}
 use Rattle.queues.specs.Table.{Place, Idle, W1, W2, W3, W4, W5, W6, W7, W8, W9, U1, U2, U3, U4, U5, U6, U7, U8, U9}
 use Rattle.queues.specs.Table.{U10, R1, R2, R3, R4, R5, R6, R7, Writer, Reader, Plan, Lock, view, phase, phase-of}
 use Rattle.queues.specs.Table.{status-level, Sound}

@@ -1,25 +1,24 @@
 -- Every call of a job keeps the invariant; so after every job exclusion and order hold.
-use Prim.Native.Nat.{ℕ, suc, _+_, _-_, _≤_, _<_}
+use Prim.Native.Nat.{ℕ}
 use mathlib.Core.Path.{_≡_, refl, sym, _∙_, ap, subst}
-use mathlib.Core.Logic.{_⊎_, inl, inr, _≢_, ⊎-elim}
+use mathlib.Core.Logic.{_≢_, ⊎-elim}
 use mathlib.Core.Bool.{Bool, true, false, cond, _&&_}
 use mathlib.Core.List.{List, [], _∷_}
-use lib.Dec.{eqb, leb, ltb}
-use lib.ListN.{length, getD, set}
+use lib.Dec.{eqb, leb}
+use lib.ListN.{length}
 use native.Mathlib.Omega.{arith}
 use Rattle.std.specs.declared.option.Option.{Option}
 use Rattle.std.specs.declared.option.Option.the-variants.{Some, None}
-use Rattle.std.specs.declared.result.Result.{Result}
 use Rattle.std.specs.declared.result.Result.the-variants.{Ok, Err}
 use Rattle.std.proofs.shelf.Ways.{tells}
 use Rattle.std.proofs.shelf.Tests.{and-parts, and-from, leb-true, le-leb, eq-eqb, ne-eqb, cases-bool, true≢false}
 use Rattle.refusal.specs.declared.Refusal.{Refusal}
-use Rattle.refusal.specs.declared.Refusal.the-variants.{UnknownRank, NotIdle, NotUnderWay, NotIn}
+use Rattle.refusal.specs.declared.Refusal.the-variants.{UnknownRank, NotUnderWay}
 use Rattle.memory.specs.Words.{Words}
 use Rattle.plan.specs.Shapes.{within}
 use Rattle.plan.specs.Trees.{Tree, homes, own-level}
 use Rattle.places.proofs.ReadBack.{reads-back}
-use Rattle.places.specs.Records.{checked, fits, parsed, recorded}
+use Rattle.places.specs.Records.{parsed}
 use Rattle.places.specs.Standings.{standing-at}
 use Rattle.places.specs.declared.answer.Answer.{Answer}
 use Rattle.places.specs.declared.answer.Answer.the-variants.{Asked, Leaving}
@@ -37,14 +36,14 @@ use Rattle.queues.specs.Jobs.{fresh-lock, Sensible}
 use Rattle.queues.proofs.Phases.{upd-same, upd-other}
 use Rattle.queues.proofs.Cases.{split}
 use Rattle.queues.proofs.QueueRows.{one-writer}
-use Rattle.queues.proofs.CounterRows.{bits, safe-row, safe-ask-write, safe-ask-read, safe-leave-write, safe-leave-read}
-use Rattle.queues.proofs.CounterRows.{safe-start, no-reader}
+use Rattle.queues.proofs.CounterRows.{bits, safe-row, safe-ask-write, safe-ask-read, safe-leave-write}
+use Rattle.queues.proofs.CounterRows.{safe-leave-read, safe-start, no-reader}
 use Rattle.law.specs.Calls.{State, state, called, with-words, laid, ran, answers}
 use Rattle.law.specs.Exclusion.{Alone}
 use Rattle.law.specs.History.{History, adds-from, written-down, history, nothing}
 use Rattle.law.specs.Law.{All-fair, Fair}
 use Rattle.law.specs.Order.{Ordered}
-use Rattle.law.specs.Presence.{Role, writer, reader, Presence, told, noted, seen, nobody, is-entered, is-free}
+use Rattle.law.specs.Presence.{Role, Presence, told, noted, seen, nobody, is-entered, is-free}
 use Rattle.law.specs.declared.call.Call.{Call}
 use Rattle.law.specs.declared.call.Call.the-variants.{AskWrite, AskRead, Step, Leave}
 use Rattle.law.proofs.Bridge.{machine-plan, Geometry, Shows, Stepped}

@@ -1,8 +1,8 @@
 -- The law, for every plan, all words and records that layout accepts, and every list of calls.
 use Prim.Native.Nat.{ℕ}
 use mathlib.Core.Bool.{true}
-use mathlib.Core.List.{List, _++_}
-use mathlib.Core.Path.{_≡_, sym, _∙_, ap, subst}
+use mathlib.Core.List.{List}
+use mathlib.Core.Path.{_≡_, sym, _∙_, subst}
 use lib.ListN.{take}
 use Rattle.std.specs.declared.result.Result.the-variants.{Ok}
 use Rattle.memory.specs.Words.{Words}
@@ -17,7 +17,7 @@ use Rattle.law.specs.Presence.{Presence, nobody, seen}
 use Rattle.law.specs.Rest.{At-rest}
 use Rattle.law.specs.WayBack.{Way-back}
 use Rattle.law.specs.declared.call.Call.{Call}
-use Rattle.law.proofs.WayBack.{Run, as-calls, goes-on, no-asks, ran-append, returns-to-rest, runs-at, runs-present}
+use Rattle.law.proofs.WayBack.{Run, as-calls, no-asks, ran-append, returns-to-rest, runs-at, runs-present}
 use Rattle.law.proofs.WayBack.{seen-append}
 use Rattle.law.proofs.Bridge.{Geometry}
 use Rattle.law.proofs.PlanGeometry.{every-plan}

@@ -1,15 +1,13 @@
 -- The counters never wrap.
-use Prim.Native.Nat.{ℕ, zero, suc, pred, _+_, _-_, _*_, _/_, _%_, _^_, _≤_, _<_}
-use mathlib.Core.Path.{_≡_, refl, sym, _∙_, ap, subst}
-use mathlib.Core.Bool.{Bool, true, false, cond, _&&_}
-use lib.Dec.{eqb, leb, ltb}
+use Prim.Native.Nat.{ℕ, zero, suc, _+_, _^_, _≤_, _<_}
+use mathlib.Core.Path.{_≡_}
 use native.Mathlib.Omega.{arith}
 use Rattle.std.proofs.shelf.Ways.{tells}
 use Rattle.plan.specs.Trees.{Tree, counters}
 use Rattle.queues.specs.Machine.{On}
-use Rattle.queues.specs.Counters.{total, pick, Load, tries, admits, clears, write-bit, Count}
-use Rattle.queues.specs.Table.{Place, U7, R2, R6, Plan, Lock}
-use Rattle.queues.specs.Invariant.{Safe, load-of, gate, tally}
+use Rattle.queues.specs.Counters.{total, pick, Load, tries, admits, clears, Count}
+use Rattle.queues.specs.Table.{U7, R2, R6, Lock}
+use Rattle.queues.specs.Invariant.{Safe, load-of, tally}
 use Rattle.law.proofs.Bridge.{machine-plan, Geometry}
 use Rattle.queues.proofs.Sums.{total-part, pick-same}
 use Rattle.queues.proofs.CounterRows.{gate-at}

@@ -1,23 +1,22 @@
 -- Every lawful plan has the geometry that the rest asks for.
-use Prim.Native.Nat.{ℕ, zero, suc, pred, _+_, _-_, _/_, _≤_, _<_}
-use mathlib.Core.Path.{_≡_, refl, sym, _∙_, ap, subst}
-use mathlib.Core.Logic.{_⊎_, inl, inr, ⊎-elim}
+use Prim.Native.Nat.{ℕ, suc, pred, _+_, _-_, _≤_, _<_}
+use mathlib.Core.Path.{_≡_, refl, sym, _∙_, ap}
+use mathlib.Core.Logic.{inl, inr, ⊎-elim}
 use mathlib.Core.Bool.{Bool, true, cond, _&&_}
 use mathlib.Core.List.{List}
 use native.Mathlib.Omega.{arith}
-use lib.ListN.{length, getD}
-use lib.Dec.{leb, ltb, eqb}
-use Rattle.std.proofs.shelf.Tests.{and-parts, eqb-true}
+use lib.ListN.{length}
+use lib.Dec.{leb, eqb}
+use Rattle.std.proofs.shelf.Tests.{and-parts}
 use Rattle.std.proofs.shelf.Ways.{tells}
 use Rattle.plan.specs.declared.plan.Plan.{Plan}
 use Rattle.plan.specs.declared.shape.Shape.{Shape}
-use Rattle.plan.specs.Shapes.{parent, level, within, every, parent-ok, rank-ok, thresholds-ok}
-use Rattle.plan.specs.Trees.{Tree, tree-of, counter-home, counters, element-at, element-home, level-of}
-use Rattle.plan.specs.Trees.{level-threshold}
-use Rattle.plan.specs.Trees.{node-home, own-counter, own-element, own-level, queue-home, threshold}
-use Rattle.plan.specs.Trees.{parents-right, ranks-right, sizes-right, thresholds-right}
+use Rattle.plan.specs.Shapes.{parent, level, within, parent-ok, rank-ok, thresholds-ok}
+use Rattle.plan.specs.Trees.{Tree, tree-of, counters, element-at, level-of, level-threshold, node-home, own-counter}
+use Rattle.plan.specs.Trees.{own-element, own-level, threshold, parents-right, ranks-right, sizes-right}
+use Rattle.plan.specs.Trees.{thresholds-right}
 use Rattle.plan.proofs.Every.{every-at}
-use Rattle.plan.proofs.Facts.{Sizes, sizes-of}
+use Rattle.plan.proofs.Facts.{sizes-of}
 use Rattle.queues.specs.Machine
 use Rattle.queues.specs.Machine.{On, Lawful}
 use Rattle.law.proofs.Bridge.{machine-plan, Geometry}

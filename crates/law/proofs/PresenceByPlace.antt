@@ -9,11 +9,9 @@ use Rattle.std.specs.declared.result.Result.the-variants.{Ok, Err}
 use Rattle.refusal.specs.declared.Refusal.{Refusal}
 use Rattle.plan.specs.Trees.{Tree}
 use Rattle.places.specs.Table.{next-of}
-use Rattle.places.specs.declared.answer.Answer.{Answer}
 use Rattle.places.specs.declared.follow.Next.{Next}
 use Rattle.queues.specs.Table.{Place, Idle, W1, W2, W3, W4, W5, W6, W7, W8, W9, U1, U2, U3, U4, U5, U6, U7, U8, U9}
-use Rattle.queues.specs.Table.{U10}
-use Rattle.queues.specs.Table.{R1, R2, R3, R4, R5, R6, R7, Writer, Reader}
+use Rattle.queues.specs.Table.{U10, R1, R2, R3, R4, R5, R6, R7, Writer, Reader}
 use Rattle.law.specs.Presence.{Role, writer, reader, is-entered, is-free}
 
 -- a rank at a place, of a role, inside or not

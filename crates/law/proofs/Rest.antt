@@ -1,18 +1,17 @@
 -- When every rank is idle, the queues are empty and the counters agree.
-use Prim.Native.Nat.{ℕ, suc, _+_, _-_, _≤_, _<_}
+use Prim.Native.Nat.{ℕ, suc, _+_, _≤_, _<_}
 use mathlib.Core.Path.{_≡_, refl, sym, _∙_, ap, subst}
-use mathlib.Core.Logic.{_⊎_, inl, inr, _≢_, ⊎-elim}
+use mathlib.Core.Logic.{_≢_, ⊎-elim}
 use mathlib.Core.List.{List}
 use native.Mathlib.Omega.{arith}
-use Rattle.std.specs.declared.result.Result.the-variants.{Ok, Err}
 use Rattle.std.proofs.shelf.Tests.{cases-eq}
 use Rattle.memory.specs.Words.{Words}
-use Rattle.plan.specs.Trees.{Tree, counters, counter-home, element-home}
+use Rattle.plan.specs.Trees.{Tree, counters}
 use Rattle.places.specs.declared.record.Record.{Record}
-use Rattle.queues.specs.Machine.{Tree as Machine-tree, On, Inv, out, hold-level}
+use Rattle.queues.specs.Machine.{Tree as Machine-tree, On, hold-level}
 use Rattle.queues.specs.Counters.{total, Load, tries, admits, clears, Count, Marks, shut}
 use Rattle.queues.specs.Counters
-use Rattle.queues.specs.Table.{Place, Idle, Plan, Lock, view, phase}
+use Rattle.queues.specs.Table.{Idle, Lock, phase}
 use Rattle.queues.specs.Invariant.{Safe, load-of, gate, tally}
 use Rattle.law.proofs.Bridge.{machine-plan, Geometry, Shows}
 use Rattle.law.specs.Rest.{At-rest}

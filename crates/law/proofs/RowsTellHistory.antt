@@ -1,26 +1,23 @@
 -- Each row of a step adds to the past what it does to the turns.
-use Prim.Native.Nat.{ℕ, zero, suc, pred, _+_, _-_, _≤_, _<_, min}
+use Prim.Native.Nat.{ℕ, suc, pred, _<_}
 use mathlib.Core.Path.{_≡_, refl, sym, _∙_, ap, subst}
-use mathlib.Core.Logic.{_⊎_, inl, inr, _≢_, ⊎-elim}
+use mathlib.Core.Logic.{_≢_, ⊎-elim}
 use mathlib.Core.Bool.{Bool, true, false, cond}
-use mathlib.Core.List.{List, [], _∷_}
+use mathlib.Core.List.{List}
 use lib.Dec.{eqb, leb}
 use native.Mathlib.Omega.{arith}
-use Rattle.std.specs.declared.option.Option.{Option}
-use Rattle.std.specs.declared.option.Option.the-variants.{Some, None}
 use Rattle.std.proofs.shelf.Tests.{cases-eq, eqb-true}
 use Rattle.memory.specs.Words.{Words}
 use Rattle.plan.specs.Trees.{Tree, node-home, own-level, queue-home}
 use Rattle.places.specs.declared.record.Record.{Record}
-use Rattle.queues.specs.Machine.{Tree as Machine-tree, On, Inv, Heads, hold, give, hold-level, InRange}
+use Rattle.queues.specs.Machine.{Tree as Machine-tree, On, Inv, Heads, hold, give, hold-level}
 use Rattle.queues.specs.Table.{Place, Idle, W1, W2, W3, W4, W5, W6, W7, W8, W9, U1, U2, U3, U4, U5, U6, U7, U8, U9}
 use Rattle.queues.specs.Table.{U10, R1, R2, R3, R4, R5, R6, R7, Writer, Reader, WAIT, told-status, Plan, Lock, go}
-use Rattle.queues.specs.Table.{free, done}
-use Rattle.queues.specs.Table.{row, upd, view, phase}
+use Rattle.queues.specs.Table.{free, done, row, upd, view, phase}
 use Rattle.queues.specs.Invariant.{Safe}
 use Rattle.law.proofs.Bridge.{machine-plan, Geometry, Shows}
-use Rattle.law.specs.History.{History, adds, hands-over, joins, more, stops}
-use Rattle.queues.proofs.OneHolder.{occupant, successor, Successor, range-of}
+use Rattle.law.specs.History.{History, adds, more}
+use Rattle.queues.proofs.OneHolder.{occupant, successor, range-of}
 use Rattle.queues.proofs.QueueRows.{phase-at}
 use Rattle.law.proofs.InRange.{ranged}
 use Rattle.law.proofs.HistoryByTurns.{Traces, traces-join, traces-pass, traces-free}

@@ -1,19 +1,17 @@
 -- Each step of the lock is the row of the abstract machine.
-use Prim.Native.Nat.{ℕ, zero, suc, pred, _+_, _-_, _*_, _/_, _%_, _^_, _≤_, _<_}
+use Prim.Native.Nat.{ℕ, suc, pred, _+_, _-_, _%_, _^_, _≤_, _<_}
 use mathlib.Core.Path.{_≡_, refl, sym, _∙_, ap, ap₂, subst}
-use mathlib.Core.Logic.{_⊎_, inl, inr, _≢_, ⊎-elim}
+use mathlib.Core.Logic.{_⊎_, inl, inr, _≢_}
 use mathlib.Core.Bool.{Bool, true, false, cond, _&&_, not}
 use mathlib.Core.List.{List}
 use lib.Dec.{eqb, leb, ltb}
-use lib.ListN.{length, getD, set}
 use native.Mathlib.Omega.{arith}
 use native.Mathlib.Numerals.{add-one, sub-one}
-use Rattle.std.specs.declared.option.Option.{Option}
-use Rattle.std.specs.declared.option.Option.the-variants.{Some, None}
+use Rattle.std.specs.declared.option.Option.the-variants.{Some}
 use Rattle.std.specs.declared.result.Result.{Result}
-use Rattle.std.specs.declared.result.Result.the-variants.{Ok, Err}
+use Rattle.std.specs.declared.result.Result.the-variants.{Ok}
 use Rattle.std.proofs.shelf.Ways.{tells}
-use Rattle.std.proofs.shelf.Tests.{ne-eqb, eq-eqb, eqb-true, eqb-false, leb-true, le-leb, lt-leb}
+use Rattle.std.proofs.shelf.Tests.{ne-eqb, eq-eqb, leb-true, le-leb, lt-leb}
 use Rattle.refusal.specs.declared.Refusal.{Refusal}
 use Rattle.refusal.specs.declared.Refusal.the-variants.{NotUnderWay}
 use Rattle.memory.specs.Words.{Words, storing}
@@ -22,32 +20,25 @@ use Rattle.memory.specs.declared.operations.Operation.the-variants.{Get, Put, S
 use Rattle.plan.specs.Shapes.{within}
 use Rattle.plan.specs.Trees.{Tree, counter-home, counters, element-at, element-home, homes, node-home, own-counter}
 use Rattle.plan.specs.Trees.{own-counter-home, own-level, queue-home, threshold}
-use Rattle.places.specs.Records.{recorded}
 use Rattle.places.specs.Standings.{standing-at}
 use Rattle.places.specs.Table.{access, access-of, level-done, moves, next-of, rests}
 use Rattle.places.specs.Words.{minus, write-bit}
-use Rattle.places.specs.declared.access.Access.{Access}
 use Rattle.places.specs.declared.answer.Answer.{Answer}
 use Rattle.places.specs.declared.answer.Answer.the-variants.{Entered, Free, Moved, Waiting}
 use Rattle.places.specs.declared.follow.Next.{Next}
-use Rattle.places.specs.declared.place.Standing.{Standing}
 use Rattle.places.specs.declared.place.Standing.the-variants.{UnderWay}
 use Rattle.places.specs.declared.record.Record.{Record}
 use Rattle.lock.specs.Outcomes.{Outcome, placed, refused}
 use Rattle.lock.specs.Steps.{followed, row-next, row-words, stepped-from, stepped-to}
 use Rattle.queues.specs.Machine.{On}
 use Rattle.queues.specs.Table.{Place, Idle, W1, W2, W3, W4, W5, W6, W7, W8, W9, U1, U2, U3, U4, U5, U6, U7, U8, U9}
-use Rattle.queues.specs.Table.{U10}
-use Rattle.queues.specs.Table.{R1, R2, R3, R4, R5, R6, R7, Writer, Reader, WAIT, told-status, Plan, Lock, upd, go}
-use Rattle.queues.specs.Table.{put-next}
-use Rattle.queues.specs.Table.{put-status}
-use Rattle.queues.specs.Table.{put-arrive, put-depart, join, drop, free, done, next, row, Sound, Counts}
+use Rattle.queues.specs.Table.{U10, R1, R2, R3, R4, R5, R6, R7, Writer, Reader, WAIT, told-status, Plan, Lock, go}
+use Rattle.queues.specs.Table.{put-status, put-arrive, put-depart, free, done, next, row, Sound, Counts}
 use Rattle.queues.specs.Invariant.{Safe}
 use Rattle.queues.proofs.Phases.{upd-same, upd-other, told-large}
 use Rattle.law.proofs.Bridge.{machine-plan, Geometry, Ranged, Shows, Stepped, Goes, gives, effect}
 use Rattle.law.proofs.Writes.{done-by, shows-next, shows-status, shows-join, shows-free, shows-drop, shows-go}
-use Rattle.law.proofs.Writes.{shows-stay}
-use Rattle.law.proofs.Writes.{shows-arrive, shows-depart}
+use Rattle.law.proofs.Writes.{shows-stay, shows-arrive, shows-depart}
 use Rattle.law.proofs.InRange.{ranged, reaches, Reach}
 use Rattle.law.proofs.NoWrap.{small, at-U7, at-R2, at-R6}
 

@@ -1,34 +1,25 @@
 -- The way back: the machine's moves to idle, done by the lock call by call.
 use Prim.Native.Nat.{ℕ}
-use mathlib.Core.Bool.{Bool, true, false, cond}
 use mathlib.Core.List.{List, [], _∷_, _++_}
-use mathlib.Core.Logic.{_⊎_, inl, inr, ⊎-elim}
+use mathlib.Core.Logic.{_⊎_, inl, inr}
 use mathlib.Core.Path.{_≡_, refl, sym, _∙_, ap, subst}
-use lib.Dec.{leb}
 use native.Mathlib.Omega.{arith}
 use Rattle.std.proofs.shelf.Ways.{tells}
-use Rattle.std.specs.declared.result.Result.{Result}
-use Rattle.refusal.specs.declared.Refusal.{Refusal}
-use Rattle.memory.specs.Words.{Words}
 use Rattle.plan.specs.Trees.{Tree, own-level}
 use Rattle.places.specs.Standings.{standing-at}
-use Rattle.places.specs.declared.answer.Answer.{Answer}
 use Rattle.places.specs.declared.place.Standing.the-variants.{UnderWay}
-use Rattle.places.specs.declared.record.Record.{Record}
 use Rattle.lock.specs.Turns.{exit-of}
-use Rattle.queues.specs.Machine.{On}
 use Rattle.queues.specs.Table.{Place, Idle, W1, W2, W3, W4, W5, W6, W7, W8, W9, U1, U2, U3, U4, U5, U6, U7, U8, U9}
-use Rattle.queues.specs.Table.{U10}
-use Rattle.queues.specs.Table.{R1, R2, R3, R4, R5, R6, R7, Writer, Reader, Plan, Lock, go, row}
+use Rattle.queues.specs.Table.{U10, R1, R2, R3, R4, R5, R6, R7, Writer, Reader, Plan, Lock, go}
 use Rattle.queues.specs.Moves.{Accepted, Accepts, AtRest, In, Leave as leave-move, Move, Step as step-move, act, exit}
 use Rattle.queues.proofs.FirstStage.{Good}
-use Rattle.queues.proofs.OntoCalls.{Oks, back-onto, calls}
-use Rattle.law.specs.Calls.{State, after, answer-to, answers, called, ran, state}
+use Rattle.queues.proofs.OntoCalls.{back-onto, calls}
+use Rattle.law.specs.Calls.{State, after, answer-to, answers, ran}
 use Rattle.law.specs.History.{History, written-down}
 use Rattle.law.specs.Presence.{Presence, seen, told}
 use Rattle.law.specs.WayBack.{No-asks}
 use Rattle.law.specs.declared.call.Call.{Call}
-use Rattle.law.specs.declared.call.Call.the-variants.{AskWrite, AskRead, Step, Leave}
+use Rattle.law.specs.declared.call.Call.the-variants.{Step, Leave}
 use Rattle.law.proofs.Bridge.{Geometry, machine-plan}
 use Rattle.law.proofs.Invariant.{Holds, does-leave-read, does-leave-write, does-row, exit-is}
 

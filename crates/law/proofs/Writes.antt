@@ -1,28 +1,27 @@
 -- Writes of words and records, and the lock that they show.
-use Prim.Native.Nat.{ℕ, suc, pred, _+_, _-_, _*_, _/_, _%_, _^_, _≤_, _<_}
-use mathlib.Core.Path.{_≡_, refl, sym, _∙_, ap, subst}
-use mathlib.Core.Logic.{_⊎_, inl, inr, _≢_, ⊎-elim}
-use mathlib.Core.Bool.{Bool, true, false, cond, _&&_}
+use Prim.Native.Nat.{ℕ, _+_, _-_, _%_, _^_, _≤_}
+use mathlib.Core.Path.{_≡_, refl, sym, _∙_, ap}
+use mathlib.Core.Bool.{cond}
 use mathlib.Core.List.{List}
-use lib.Dec.{eqb, leb, ltb}
-use lib.ListN.{length, getD, set, length-set}
+use lib.Dec.{eqb}
+use lib.ListN.{getD, set, length-set}
 use lib.Seq.{getD-set-same, getD-set-other}
 use native.Mathlib.Omega.{arith}
 use Rattle.std.proofs.shelf.Ways.{tells}
-use Rattle.std.proofs.shelf.Tests.{ne-eqb, eq-eqb, le-ltb}
+use Rattle.std.proofs.shelf.Tests.{ne-eqb, le-ltb}
 use Rattle.std.specs.declared.result.Result.the-variants.{Ok, Err}
 use Rattle.refusal.specs.declared.Refusal.{Refusal}
 use Rattle.memory.specs.Operations.{answered, performed}
 use Rattle.memory.specs.Words.{Words, storing, refusing}
 use Rattle.memory.specs.declared.operations.Operation.{Operation}
 use Rattle.memory.specs.declared.operations.Operation.the-variants.{Get, Put, Swap, Add, Cas}
-use Rattle.plan.specs.Trees.{Tree, counters, counter-home, homes}
+use Rattle.plan.specs.Trees.{Tree, counter-home}
 use Rattle.places.specs.declared.record.Record.{Record}
 use Rattle.places.specs.Records.{recorded}
 use Rattle.queues.specs.Machine.{On}
 use Rattle.queues.specs.Table.{Place, Idle, Lock, upd, go, put-next, put-status, put-arrive, put-depart, join, drop}
 use Rattle.queues.specs.Table.{free}
-use Rattle.law.proofs.Bridge.{Shows, Geometry, gives, effect}
+use Rattle.law.proofs.Bridge.{Shows, gives, effect}
 use Rattle.queues.proofs.Phases.{upd-same, upd-other}
 use Rattle.queues.proofs.Cases.{split}
 

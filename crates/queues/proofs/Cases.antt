@@ -1,8 +1,7 @@
 -- Case analysis on numbers, and what a phase rules out.
-use Prim.Native.Nat.{ℕ, suc, _≤_, _<_}
-use mathlib.Core.Path.{_≡_, refl, sym, _∙_, ap, subst}
-use mathlib.Core.Logic.{_⊎_, inl, inr, _≢_, ⊎-elim}
-use native.Mathlib.Omega.{arith}
+use Prim.Native.Nat.{ℕ}
+use mathlib.Core.Path.{_≡_, sym, subst}
+use mathlib.Core.Logic.{_≢_, ⊎-elim}
 use Rattle.std.proofs.shelf.Tests.{cases-eq}
 use Rattle.queues.specs.Machine.{Tree, State, Phase, out, fresh, clean, ready, link, wait, hold, give, Calm, Waits}
 use Rattle.queues.specs.Machine.{Asks}

@@ -1,29 +1,26 @@
 -- The counters under the rows of the table.
-use Prim.Native.Nat.{ℕ, zero, suc, pred, _+_, _-_, _*_, _^_, _≤_, _<_}
+use Prim.Native.Nat.{ℕ, suc, pred, _+_, _-_, _*_, _^_, _≤_, _<_}
 use mathlib.Core.Path.{_≡_, refl, sym, _∙_, ap, subst}
 use mathlib.Core.Logic.{_⊎_, inl, inr, _≢_, ⊎-elim}
 use mathlib.Core.Bool.{Bool, true, false, cond}
 use lib.Dec.{eqb, leb, ltb}
 use native.Mathlib.Omega.{arith}
-use Rattle.std.proofs.shelf.Tests.{cases-eq, cases-lt, cond-both, eq-eqb, ne-eqb, le-leb, lt-leb, eqb-true, eqb-false}
-use Rattle.std.proofs.shelf.Tests.{leb-true, leb-false, ltb-true, ltb-false}
-use Rattle.queues.specs.Machine.{Tree, Lawful, On, Phase, wait, hold, give, hold-level, InRange, Waits, Inv}
+use Rattle.std.proofs.shelf.Tests.{cases-eq, cases-lt, cond-both, eq-eqb, ne-eqb, le-leb, lt-leb, eqb-true, leb-false}
+use Rattle.std.proofs.shelf.Tests.{ltb-true, ltb-false}
+use Rattle.queues.specs.Machine.{Tree, Lawful, On, wait, hold, give, hold-level, InRange, Waits, Inv}
 use Rattle.queues.specs.Table.{Place, Idle, W1, W2, W3, W4, W5, W6, W7, W8, W9, U1, U2, U3, U4, U5, U6, U7, U8, U9}
 use Rattle.queues.specs.Table.{U10, R1, R2, R3, R4, R5, R6, R7, Writer, Reader, WAIT, told-status, Plan, Lock, upd}
-use Rattle.queues.specs.Table.{phase-of}
-use Rattle.queues.specs.Table.{status-level, phase, view, Sound, Fine, go, put-status, free, done, next, row}
-use Rattle.queues.specs.Counters.{total, pick, Load, none, trying, inside, leaving, carrying, clearing, tries, admits}
-use Rattle.queues.specs.Counters.{clears}
+use Rattle.queues.specs.Table.{phase-of, status-level, phase, view, Sound, go, put-status, free, done, next, row}
+use Rattle.queues.specs.Counters.{total, pick, Load, none, trying, inside, carrying, clearing, tries, admits, clears}
 use Rattle.queues.specs.Counters.{Gate, shut, raising, checking, reading, wide, lowering, Marks, Keeps, Tally}
-use Rattle.queues.specs.Counters.{write-bit}
-use Rattle.queues.specs.Counters.{Count, Counted}
+use Rattle.queues.specs.Counters.{write-bit, Counted}
 use Rattle.queues.specs.Invariant.{gate-of, load-of, Within, gate, tally, Safe}
 use Rattle.queues.proofs.OneHolder.{one-holder, Successor, successor}
 use Rattle.queues.proofs.Cases.{split, split₂}
 use Rattle.queues.proofs.Sums.{pick-same, pick-other, total-part, total-same, total-zero}
 use Rattle.queues.proofs.Phases.{upd-same, upd-other, w5-level, told-large}
-use Rattle.queues.proofs.Counters.{Local, Shift, Drains, drained, Enters, entered, nobody-in}
-use Rattle.queues.proofs.WriteBits.{Flips, flipped, Trades, traded}
+use Rattle.queues.proofs.Counters.{Local, Shift, drained, entered, nobody-in}
+use Rattle.queues.proofs.WriteBits.{flipped, traded}
 use Rattle.queues.proofs.QueueRows.{phase-at, status-other, only-W5, fine-row, fine-ask-write, fine-ask-read}
 use Rattle.queues.proofs.QueueRows.{fine-leave-write, fine-leave-read, fine-start, one-writer}
 use Rattle.queues.specs.Jobs.{fresh-lock, Sensible, Jobs, start, stepped, asked-write, asked-read, left-write}

@@ -1,15 +1,13 @@
 -- The counters' rows.
-use Prim.Native.Nat.{ℕ, zero, suc, _+_, _*_, _^_, _≤_, _<_}
+use Prim.Native.Nat.{ℕ, suc, _+_, _≤_, _<_}
 use mathlib.Core.Path.{_≡_, refl, sym, _∙_, ap, subst}
-use mathlib.Core.Logic.{_⊎_, inl, inr, _≢_, ⊎-elim}
+use mathlib.Core.Logic.{_≢_}
 use native.Mathlib.Omega.{arith}
-use Rattle.std.proofs.shelf.Tests.{cases-eq}
 use Rattle.queues.specs.Machine.{On}
-use Rattle.queues.specs.Counters.{total, pick, Load, none, trying, inside, leaving, carrying, clearing, tries, admits}
-use Rattle.queues.specs.Counters.{clears, Gate, shut, raising, checking, reading, wide, lowering, Marks, Keeps, Tally}
-use Rattle.queues.specs.Counters.{write-bit, Count, Counted}
+use Rattle.queues.specs.Counters.{total, Load, none, inside, tries, admits, clears, Gate, shut, raising, checking}
+use Rattle.queues.specs.Counters.{reading, wide, lowering, Marks, Keeps, Tally, write-bit, Count, Counted}
 use Rattle.queues.proofs.Cases.{split}
-use Rattle.queues.proofs.Sums.{total-same, total-swap, total-part, pick-same, pick-other}
+use Rattle.queues.proofs.Sums.{total-same, total-swap, total-part, pick-same}
 
 -- one weight of the load l is that of the load m at every counter but c
 abbrev pub Local : Load → Load → ℕ → Type 0

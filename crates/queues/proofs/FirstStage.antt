@@ -1,26 +1,24 @@
 -- Moves keep the lock safe; and the first stage of the way back: readers to idle or R3.
-use Prim.Native.Nat.{ℕ, zero, suc, pred, _+_, _-_, _*_, _^_, _≤_, _<_}
+use Prim.Native.Nat.{ℕ, _≤_, _<_}
 use mathlib.Core.Path.{_≡_, refl, sym, _∙_, ap, subst}
-use mathlib.Core.Logic.{_⊎_, inl, inr, _≢_, ⊎-elim}
-use mathlib.Core.Bool.{Bool, true, false, cond}
-use lib.Dec.{eqb, leb, ltb}
+use mathlib.Core.Logic.{_⊎_, inl, inr, _≢_}
+use mathlib.Core.Bool.{cond}
+use lib.Dec.{leb}
 use native.Mathlib.Omega.{arith}
-use Rattle.std.proofs.shelf.Tests.{cases-eq, cases-lt}
 use Rattle.std.proofs.shelf.Ways.{tells}
-use Rattle.queues.specs.Machine.{Tree, Lawful, On, Phase, out, fresh, clean, ready, link, wait, hold, give, hold-level}
-use Rattle.queues.specs.Machine.{InRange, Waits, State, Inv, Linking, Asks}
+use Rattle.queues.specs.Machine.{Tree, Lawful, On, Phase, out, fresh, clean, ready, link, wait, hold, give, InRange}
+use Rattle.queues.specs.Machine.{State, Inv, Linking}
 use Rattle.queues.specs.Counters.{total}
 use Rattle.queues.specs.Table.{Place, Idle, W1, W2, W3, W4, W5, W6, W7, W8, W9, U1, U2, U3, U4, U5, U6, U7, U8, U9}
-use Rattle.queues.specs.Table.{U10, R1, R2, R3, R4, R5, R6, R7, Writer, Reader, WAIT, told-status, Plan, Lock, upd}
-use Rattle.queues.specs.Table.{phase-of}
-use Rattle.queues.specs.Table.{status-level, phase, view, Sound, Fine, go, row}
+use Rattle.queues.specs.Table.{U10, R1, R2, R3, R4, R5, R6, R7, Writer, Reader, Plan, Lock, upd, phase-of}
+use Rattle.queues.specs.Table.{status-level, phase, view, Sound, go, row}
 use Rattle.queues.specs.Invariant.{Within, Safe}
-use Rattle.queues.specs.Moves.{tag, Node, Move, Step, Leave, Accepts, In, exit, Accepted, act, Apt}
+use Rattle.queues.specs.Moves.{tag, Node, Step, Leave, Accepts, In, exit, Accepted, Apt}
 use Rattle.queues.proofs.OneHolder.{Occupant, occupant, Successor, successor, asked}
 use Rattle.queues.proofs.Phases.{upd-same, upd-other}
 use Rattle.queues.proofs.CounterRows.{bits, safe-row, safe-leave-write, safe-leave-read}
 use Rattle.queues.proofs.Progress.{sum-falls}
-use Rattle.queues.proofs.Reach.{Reach, here, move, onwards, Sum, Lower, Done, descend}
+use Rattle.queues.proofs.Reach.{Reach, here, move, Sum, Lower, descend}
 
 pub record Good (P : ℕ) (L : Plan) (s : Lock) : Type 0 where
   pub bit : ℕ → ℕ

@@ -1,13 +1,12 @@
 -- A hand-over at level i (rows U3 and U9): the head of a queue goes, and the next rank holds.
 use Prim.Native.Nat.{ℕ, suc, _≤_, _<_}
 use mathlib.Core.Path.{_≡_, refl, sym, _∙_, ap, subst}
-use mathlib.Core.Logic.{_⊎_, inl, inr, _≢_, ⊎-elim}
+use mathlib.Core.Logic.{_⊎_, inl, inr, _≢_}
 use native.Mathlib.Omega.{arith}
 use Rattle.std.proofs.shelf.Tests.{cases-eq, cases-order}
-use Rattle.queues.specs.Machine.{Tree, Lawful, On, Phase, out, fresh, clean, ready, link, wait, hold, give, hold-level}
-use Rattle.queues.specs.Machine.{InRange, Waits, Calm, State, Inv, Holder, Member, Heads, Behind, Linking, Waiting}
-use Rattle.queues.specs.Machine.{Asks}
-use Rattle.queues.proofs.OneHolder.{range-of, one-holder, one-owner, waits-level, waits-on, Successor, successor}
+use Rattle.queues.specs.Machine.{Tree, Lawful, On, Phase, out, fresh, clean, ready, link, wait, hold, give}
+use Rattle.queues.specs.Machine.{hold-level, InRange, Waits, Calm, State, Inv, Holder, Member, Heads, Behind, Asks}
+use Rattle.queues.proofs.OneHolder.{range-of, one-holder, one-owner, waits-level, waits-on, Successor}
 use Rattle.queues.proofs.Cases.{split, split₂, calm-asks}
 
 abbrev pub passed : State → (ℕ → Phase) → (ℕ → ℕ) → State

@@ -3,11 +3,10 @@ use Prim.Native.Nat.{ℕ, suc, pred, _≤_, _<_}
 use mathlib.Core.Path.{_≡_, refl, sym, _∙_, ap, subst}
 use mathlib.Core.Logic.{_⊎_, inl, inr, _≢_, ⊎-elim}
 use native.Mathlib.Omega.{arith}
-use Rattle.std.proofs.shelf.Tests.{cases-eq, cases-order, cases-lt}
-use Rattle.queues.specs.Machine.{Tree, Lawful, On, Phase, out, fresh, clean, ready, link, wait, hold, give, hold-level}
-use Rattle.queues.specs.Machine.{InRange, Waits, Calm, State, Inv, Holder, Member, Heads, Behind, Linking, Waiting}
-use Rattle.queues.specs.Machine.{Asks}
-use Rattle.queues.proofs.OneHolder.{range-of, one-owner, apart, asked, Occupant, occupant}
+use Rattle.std.proofs.shelf.Tests.{cases-eq, cases-lt}
+use Rattle.queues.specs.Machine.{Tree, Lawful, On, Phase, out, fresh, clean, ready, link, wait, hold, give}
+use Rattle.queues.specs.Machine.{hold-level, InRange, Waits, State, Inv, Holder, Member, Heads, Behind, Asks}
+use Rattle.queues.proofs.OneHolder.{range-of, apart, asked, Occupant, occupant}
 use Rattle.queues.proofs.Cases.{split}
 
 abbrev pub joined : State → (ℕ → Phase) → (ℕ → ℕ) → (ℕ → ℕ → ℕ) → (ℕ → ℕ) → State

@@ -1,12 +1,10 @@
 -- Row W4: a rank that has joined writes its node into the NEXT of the node before it.
 use Prim.Native.Nat.{ℕ, suc, _≤_, _<_}
 use mathlib.Core.Path.{_≡_, refl, sym, _∙_, ap, subst}
-use mathlib.Core.Logic.{_⊎_, inl, inr, _≢_, ⊎-elim}
+use mathlib.Core.Logic.{_≢_}
 use native.Mathlib.Omega.{arith}
-use Rattle.std.proofs.shelf.Tests.{cases-eq}
-use Rattle.queues.specs.Machine.{Tree, Lawful, On, Phase, out, fresh, clean, ready, link, wait, hold, give, hold-level}
-use Rattle.queues.specs.Machine.{InRange, Waits, Calm, State, Inv, Holder, Member, Heads, Behind, Linking, Waiting}
-use Rattle.queues.specs.Machine.{Asks}
+use Rattle.queues.specs.Machine.{Tree, Lawful, On, Phase, out, fresh, clean, ready, link, wait, hold, give}
+use Rattle.queues.specs.Machine.{hold-level, InRange, Waits, State, Inv, Behind, Linking, Asks}
 use Rattle.queues.proofs.OneHolder.{range-of, one-owner, apart, asked, one-turn}
 use Rattle.queues.proofs.Cases.{split}
 use Rattle.queues.proofs.OwnMoves.{prepared}

@@ -1,14 +1,11 @@
 -- From moves to calls: a machine that shows the lock comes back to idle by the same list.
-use Prim.Native.Nat.{ℕ, suc, min, _+_, _-_, _≤_, _<_}
-use mathlib.Core.Path.{_≡_, refl, sym, subst}
-use mathlib.Core.Logic.{_⊎_, inl, inr, ⊎-elim}
-use mathlib.Core.Bool.{cond}
+use Prim.Native.Nat.{ℕ}
+use mathlib.Core.Path.{_≡_, sym, subst}
+use mathlib.Core.Logic.{_⊎_, ⊎-elim}
 use mathlib.Core.List.{List, [], _∷_}
-use lib.Dec.{leb}
 use native.Mathlib.Omega.{arith}
 use Rattle.std.proofs.shelf.Ways.{tells}
-use Rattle.queues.specs.Machine.{On}
-use Rattle.queues.specs.Table.{Place, Writer, Reader, R7, U1, U4, Plan, Lock, go}
+use Rattle.queues.specs.Table.{Place, Writer, Reader, Plan, Lock, go}
 use Rattle.queues.specs.Invariant.{Safe}
 use Rattle.queues.specs.Jobs.{Jobs, stepped, left-write, left-read}
 use Rattle.queues.specs.Moves.{Move, Step, Leave, In, exit, Accepted, act, play, Plays, AtRest, Apt}

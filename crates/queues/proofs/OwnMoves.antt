@@ -2,13 +2,12 @@
 -- prepared and not joined with.
 -- Rows: ask to write, W1, W2, W6, U1, U2, U4, U5, U8, and all that leave the phase alone.
 use Prim.Native.Nat.{ℕ, suc, _≤_, _<_}
-use mathlib.Core.Path.{_≡_, refl, sym, _∙_, ap, subst}
-use mathlib.Core.Logic.{_⊎_, inl, inr, _≢_, ⊎-elim}
+use mathlib.Core.Path.{_≡_, refl, sym, _∙_, ap}
+use mathlib.Core.Logic.{_⊎_, _≢_, ⊎-elim}
 use native.Mathlib.Omega.{arith}
-use Rattle.queues.specs.Machine.{Tree, Lawful, On, Phase, out, fresh, clean, ready, link, wait, hold, give, hold-level}
-use Rattle.queues.specs.Machine.{InRange, Waits, Calm, State, Inv, Holder, Member, Heads, Behind, Linking, Waiting}
-use Rattle.queues.specs.Machine.{Asks}
-use Rattle.queues.proofs.OneHolder.{range-of, one-owner, apart}
+use Rattle.queues.specs.Machine.{Tree, Lawful, On, Phase, out, fresh, clean, ready, link, wait, hold, give}
+use Rattle.queues.specs.Machine.{hold-level, InRange, Waits, State, Inv, Behind, Asks}
+use Rattle.queues.proofs.OneHolder.{one-owner, apart}
 use Rattle.queues.proofs.Cases.{split}
 
 abbrev pub prepared : State → (ℕ → Phase) → (ℕ → ℕ) → State

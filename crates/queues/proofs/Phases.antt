@@ -1,19 +1,15 @@
 -- From places and words to phases: what a row changes of the view.
-use Prim.Native.Nat.{ℕ, zero, suc, pred, _+_, _^_, _≤_, _<_}
-use mathlib.Core.Path.{_≡_, refl, sym, _∙_, ap, subst}
+use Prim.Native.Nat.{ℕ, suc, _≤_, _<_}
+use mathlib.Core.Path.{_≡_, refl, _∙_, ap, subst}
 use mathlib.Core.Logic.{_⊎_, inl, inr, _≢_, ⊎-elim}
 use mathlib.Core.Bool.{Bool, true, false, cond}
 use lib.Dec.{eqb, leb}
 use native.Mathlib.Omega.{arith}
 use Rattle.std.proofs.shelf.Tests.{cases-eq, eq-eqb, ne-eqb, le-leb, lt-leb}
-use Rattle.queues.specs.Machine.{Tree, Lawful, On, Phase, out, fresh, clean, ready, link, wait, hold, give, hold-level}
-use Rattle.queues.specs.Machine.{InRange, State, Inv}
+use Rattle.queues.specs.Machine.{Tree, On, wait, hold, hold-level, InRange, State, Inv}
 use Rattle.queues.specs.Table.{Place, Idle, W1, W2, W3, W4, W5, W6, W7, W8, W9, U1, U2, U3, U4, U5, U6, U7, U8, U9}
-use Rattle.queues.specs.Table.{U10, R1, R2, R3, R4, R5, R6, R7, Writer, Reader, WAIT, told-status, Plan, Lock, upd}
-use Rattle.queues.specs.Table.{phase-of}
-use Rattle.queues.specs.Table.{status-level, phase, view, Counts, Sound, Fine}
-use Rattle.queues.proofs.OneHolder.{one-owner}
-use Rattle.queues.proofs.Cases.{split}
+use Rattle.queues.specs.Table.{U10, R1, R2, R3, R4, R5, R6, R7, Writer, Reader, WAIT, told-status, Plan, upd}
+use Rattle.queues.specs.Table.{phase-of, status-level, Counts, Sound}
 
 pub upd-same : {A : Type 0} (f : ℕ → A) (a : ℕ) (v : A) → upd f a v a ≡ v
 unfolding upd

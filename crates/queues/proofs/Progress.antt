@@ -5,13 +5,12 @@ use mathlib.Core.Logic.{_⊎_, inl, inr, _≢_, ⊎-elim}
 use mathlib.Core.Bool.{Bool, true, false, cond}
 use lib.Dec.{eqb, leb, ltb}
 use native.Mathlib.Omega.{arith}
-use Rattle.std.proofs.shelf.Tests.{cases-eq, cond-both, eq-eqb, ne-eqb, le-leb, lt-leb, leb-true, leb-false}
-use Rattle.std.proofs.shelf.Tests.{eqb-false, ltb-true, ltb-false}
-use Rattle.queues.specs.Machine.{Tree, Lawful, On, Phase, out, fresh, clean, ready, link, wait, hold, give, hold-level}
-use Rattle.queues.specs.Machine.{InRange, Waits, State, Inv, Holder, Member, Heads, Behind, Waiting}
+use Rattle.std.proofs.shelf.Tests.{cases-eq, cond-both, eq-eqb, ne-eqb, le-leb, lt-leb, leb-true, eqb-false, ltb-true}
+use Rattle.std.proofs.shelf.Tests.{ltb-false}
+use Rattle.queues.specs.Machine.{Tree, Lawful, On, Phase, out, fresh, clean, ready, link, wait, hold, give}
+use Rattle.queues.specs.Machine.{hold-level, InRange, Waits, State, Inv, Holder, Member, Heads, Behind}
 use Rattle.queues.specs.Table.{Place, Idle, W1, W2, W3, W4, W5, W6, W7, W8, W9, U1, U2, U3, U4, U5, U6, U7, U8, U9}
-use Rattle.queues.specs.Table.{U10, R1, R2, R3, R4, R5, R6, R7, Writer, Reader, WAIT, told-status, Plan, Lock, upd}
-use Rattle.queues.specs.Table.{phase, go}
+use Rattle.queues.specs.Table.{U10, R1, R2, R3, R4, R5, R6, R7, Writer, Reader, WAIT, told-status, Plan, Lock, go}
 use Rattle.queues.specs.Table.{row, done, next}
 use Rattle.queues.specs.Counters.{total, tries, admits, clears, Tally, Counted}
 use Rattle.queues.proofs.OneHolder.{asked, waits-cases, turn-is}

@@ -1,29 +1,26 @@
 -- Each row keeps the queues and the statuses.
-use Prim.Native.Nat.{ℕ, zero, suc, pred, _+_, _-_, _^_, _≤_, _<_}
+use Prim.Native.Nat.{ℕ, suc, pred, _+_, _-_, _^_, _≤_, _<_}
 use mathlib.Core.Path.{_≡_, refl, sym, _∙_, ap, subst}
 use mathlib.Core.Logic.{_⊎_, inl, inr, _≢_, ⊎-elim}
 use mathlib.Core.Bool.{Bool, true, false, cond}
 use lib.Dec.{eqb, leb, ltb}
 use native.Mathlib.Omega.{arith}
-use Rattle.std.proofs.shelf.Tests.{cases-eq, cases-order, cases-bool, cond-both, eq-eqb, ne-eqb, eqb-true, eqb-false}
-use Rattle.std.proofs.shelf.Tests.{leb-true, leb-false, ltb-true}
-use Rattle.queues.specs.Machine.{Tree, Lawful, On, Phase, out, fresh, clean, ready, link, wait, hold, give, hold-level}
-use Rattle.queues.specs.Machine.{InRange, Waits, Calm, Asks, State, Inv}
+use Rattle.std.proofs.shelf.Tests.{cases-eq, cases-order, cond-both, eqb-true, eqb-false, leb-true, leb-false}
+use Rattle.std.proofs.shelf.Tests.{ltb-true}
+use Rattle.queues.specs.Machine.{Tree, Lawful, On, Phase, out, fresh, clean, ready, link, wait, hold, give}
+use Rattle.queues.specs.Machine.{hold-level, InRange, Waits, Calm, Asks, Inv}
 use Rattle.queues.specs.Table.{Place, Idle, W1, W2, W3, W4, W5, W6, W7, W8, W9, U1, U2, U3, U4, U5, U6, U7, U8, U9}
 use Rattle.queues.specs.Table.{U10, R1, R2, R3, R4, R5, R6, R7, Writer, Reader, WAIT, told-status, Plan, Lock, upd}
-use Rattle.queues.specs.Table.{phase-of}
-use Rattle.queues.specs.Table.{status-level, phase, view, Counts, Sound, Fine, go, put-next, put-status, join, drop}
-use Rattle.queues.specs.Table.{free}
-use Rattle.queues.specs.Table.{done}
-use Rattle.queues.specs.Table.{next, row, step}
+use Rattle.queues.specs.Table.{phase-of, status-level, phase, view, Counts, Sound, Fine, go, put-status, join, drop}
+use Rattle.queues.specs.Table.{free, done, next, row, step}
 use Rattle.queues.specs.Jobs.{fresh-lock}
 use Rattle.queues.proofs.OneHolder.{one-owner, one-holder, range-of, asked, Successor, successor}
-use Rattle.queues.proofs.Cases.{split, split₂, calm-asks, calm-waits}
-use Rattle.queues.proofs.OwnMoves.{Prepares, prepared, Mine, kept-by}
-use Rattle.queues.proofs.Link.{Links, linked-up}
-use Rattle.queues.proofs.Join.{Joins, joined, joined-up}
-use Rattle.queues.proofs.HandOver.{Passes, passed, handed}
-use Rattle.queues.proofs.Release.{Frees, freed, retired}
+use Rattle.queues.proofs.Cases.{split, calm-asks, calm-waits}
+use Rattle.queues.proofs.OwnMoves.{prepared, kept-by}
+use Rattle.queues.proofs.Link.{linked-up}
+use Rattle.queues.proofs.Join.{joined-up}
+use Rattle.queues.proofs.HandOver.{handed}
+use Rattle.queues.proofs.Release.{retired}
 use Rattle.queues.proofs.Phases.{upd-same, upd-other, phase-same, w5-wait, w5-count, w5-told, told-large, w5-level}
 use Rattle.queues.proofs.Phases.{sound-same}
 

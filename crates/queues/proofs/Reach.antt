@@ -1,14 +1,14 @@
 -- What can be reached by steps and leaves, and the descent that all three stages share.
-use Prim.Native.Nat.{ℕ, zero, suc, _+_, _≤_, _<_}
-use mathlib.Core.Path.{_≡_, refl, sym, _∙_, ap, subst}
-use mathlib.Core.Logic.{_⊎_, inl, inr, _≢_, ⊎-elim}
+use Prim.Native.Nat.{ℕ, zero, suc, _≤_, _<_}
+use mathlib.Core.Path.{_≡_, refl}
+use mathlib.Core.Logic.{_⊎_, inl, inr, ⊎-elim}
 use mathlib.Core.List.{List, [], _∷_}
 use native.Mathlib.Omega.{arith}
 use Rattle.std.proofs.shelf.Tests.{cases-lt}
 use Rattle.queues.specs.Machine.{On}
 use Rattle.queues.specs.Counters.{total}
-use Rattle.queues.specs.Table.{Place, Plan, Lock, row}
-use Rattle.queues.specs.Moves.{Move, Step, Leave, Accepted, act, play, Plays}
+use Rattle.queues.specs.Table.{Place, Plan, Lock}
+use Rattle.queues.specs.Moves.{Move, Accepted, act, play, Plays}
 use Rattle.queues.proofs.Sums.{total-part}
 
 -- by some accepted moves the lock comes to a state with Q

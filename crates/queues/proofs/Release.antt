@@ -1,13 +1,12 @@
 -- A release (row U10 when the tail was the own node): the queue had one node, and is empty.
 use Prim.Native.Nat.{ℕ, suc, pred, _≤_, _<_}
 use mathlib.Core.Path.{_≡_, refl, sym, _∙_, ap, subst}
-use mathlib.Core.Logic.{_⊎_, inl, inr, _≢_, ⊎-elim}
+use mathlib.Core.Logic.{_⊎_, inl, inr, _≢_}
 use native.Mathlib.Omega.{arith}
-use Rattle.std.proofs.shelf.Tests.{cases-eq, cases-order}
-use Rattle.queues.specs.Machine.{Tree, Lawful, On, Phase, out, fresh, clean, ready, link, wait, hold, give, hold-level}
-use Rattle.queues.specs.Machine.{InRange, Waits, Calm, State, Inv, Holder, Member, Heads, Behind, Linking, Waiting}
-use Rattle.queues.specs.Machine.{Asks}
-use Rattle.queues.proofs.OneHolder.{range-of, one-holder, one-owner, waits-level, waits-on}
+use Rattle.std.proofs.shelf.Tests.{cases-eq}
+use Rattle.queues.specs.Machine.{Tree, Lawful, On, Phase, out, fresh, clean, ready, link, wait, hold, give}
+use Rattle.queues.specs.Machine.{hold-level, InRange, Waits, Calm, State, Inv, Holder, Member, Heads, Behind, Asks}
+use Rattle.queues.proofs.OneHolder.{range-of, one-holder}
 use Rattle.queues.proofs.Cases.{split, calm-asks}
 
 abbrev pub freed : State → (ℕ → Phase) → (ℕ → ℕ) → (ℕ → ℕ) → State

@@ -1,28 +1,27 @@
 -- The second stage of the way back: writers to idle, while no reader is in or on its way.
-use Prim.Native.Nat.{ℕ, zero, suc, pred, _+_, _-_, _*_, _^_, _≤_, _<_}
+use Prim.Native.Nat.{ℕ, pred, _+_, _-_, _*_, _^_, _≤_, _<_}
 use mathlib.Core.Path.{_≡_, refl, sym, _∙_, ap, subst}
 use mathlib.Core.Logic.{_⊎_, inl, inr, _≢_, ⊎-elim}
-use mathlib.Core.Bool.{Bool, true, false, cond}
-use lib.Dec.{eqb, leb, ltb}
+use mathlib.Core.Bool.{cond}
+use lib.Dec.{leb}
 use native.Mathlib.Omega.{arith}
-use Rattle.std.proofs.shelf.Tests.{cases-eq, cases-lt, eq-eqb, ne-eqb}
+use Rattle.std.proofs.shelf.Tests.{cases-eq, ne-eqb}
 use Rattle.std.proofs.shelf.Ways.{tells}
-use Rattle.queues.specs.Machine.{Tree, Lawful, On, Phase, out, fresh, clean, ready, link, wait, hold, give, hold-level}
-use Rattle.queues.specs.Machine.{InRange, Waits, State, Inv}
-use Rattle.queues.specs.Counters.{total, tries, admits, clears, Marks}
+use Rattle.queues.specs.Machine.{Tree, On, Phase, out, fresh, clean, ready, link, wait, hold, give, hold-level}
+use Rattle.queues.specs.Machine.{InRange, Inv}
+use Rattle.queues.specs.Counters.{tries, admits, clears, Marks}
 use Rattle.queues.specs.Table.{Place, Idle, W1, W2, W3, W4, W5, W6, W7, W8, W9, U1, U2, U3, U4, U5, U6, U7, U8, U9}
-use Rattle.queues.specs.Table.{U10, R1, R2, R3, R4, R5, R6, R7, Writer, Reader, WAIT, told-status, Plan, Lock, upd}
-use Rattle.queues.specs.Table.{phase-of}
-use Rattle.queues.specs.Table.{status-level, phase, view, Sound, Fine, go, row}
-use Rattle.queues.specs.Invariant.{load-of, Within, Safe, tally}
-use Rattle.queues.specs.Moves.{tag, Move, Step, Leave, Accepted, act, Apt}
+use Rattle.queues.specs.Table.{U10, R1, R2, R3, R4, R5, R6, R7, Writer, Reader, Plan, Lock, upd, phase-of}
+use Rattle.queues.specs.Table.{status-level, phase, view, Sound, go, row}
+use Rattle.queues.specs.Invariant.{load-of, Within, tally}
+use Rattle.queues.specs.Moves.{tag, Apt}
 use Rattle.queues.proofs.OneHolder.{one-holder}
 use Rattle.queues.proofs.Cases.{split}
 use Rattle.queues.proofs.Phases.{upd-same, upd-other}
 use Rattle.queues.proofs.QueueRows.{phase-at}
 use Rattle.queues.proofs.CounterRows.{gate-at}
 use Rattle.queues.proofs.Progress.{Able, waits-or, Mover, mover, Follower, follower, passes}
-use Rattle.queues.proofs.Reach.{Reach, here, move, onwards, Sum, Lower, Done, descend}
+use Rattle.queues.proofs.Reach.{Reach, here, Sum, Lower, descend}
 use Rattle.queues.proofs.FirstStage.{Good, Busy, stage-1, row-other, by-step, by-leave-write, lowers}
 
 abbrev NoWait : Phase → Type 0

@@ -1,29 +1,25 @@
 -- The third stage of the way back, a lock at rest, and the way back to idle as a whole.
-use Prim.Native.Nat.{ℕ, zero, suc, pred, _+_, _-_, _*_, _^_, _≤_, _<_}
-use mathlib.Core.Path.{_≡_, refl, sym, _∙_, ap, subst}
-use mathlib.Core.Logic.{_⊎_, inl, inr, _≢_, ⊎-elim}
-use mathlib.Core.Bool.{Bool, true, false, cond}
-use mathlib.Core.List.{List}
-use lib.Dec.{eqb, leb, ltb}
+use Prim.Native.Nat.{ℕ, suc, _-_, _^_, _≤_, _<_}
+use mathlib.Core.Path.{_≡_, refl, _∙_, ap, subst}
+use mathlib.Core.Logic.{_⊎_, inl, _≢_, ⊎-elim}
+use mathlib.Core.Bool.{cond}
+use lib.Dec.{eqb}
 use native.Mathlib.Omega.{arith}
-use Rattle.std.proofs.shelf.Tests.{cases-eq, cases-lt, eq-eqb, lt-ltb, le-ltb, lt-leb}
+use Rattle.std.proofs.shelf.Tests.{cases-lt, eq-eqb, lt-ltb, le-ltb, lt-leb}
 use Rattle.std.proofs.shelf.Ways.{tells}
-use Rattle.queues.specs.Machine.{Tree, Lawful, On, Phase, out, hold-level, InRange, State, Inv, Holder}
+use Rattle.queues.specs.Machine.{Tree, On, hold-level, Inv}
 use Rattle.queues.specs.Counters.{total, tries, admits, clears, Marks, shut, none}
-use Rattle.queues.specs.Table.{Place, Idle, W1, W2, W3, W4, W5, W6, W7, W8, W9, U1, U2, U3, U4, U5, U6, U7, U8, U9}
-use Rattle.queues.specs.Table.{U10, R1, R2, R3, R4, R5, R6, R7, Writer, Reader, Plan, Lock, upd, phase-of}
-use Rattle.queues.specs.Table.{status-level}
-use Rattle.queues.specs.Table.{phase, view, go, put-arrive, put-depart, row}
-use Rattle.queues.specs.Invariant.{load-of, gate, Within, Safe}
-use Rattle.queues.specs.Jobs.{Jobs}
-use Rattle.queues.specs.Moves.{tag, Move, Plays, play, AtRest, Apt, WayBack}
+use Rattle.queues.specs.Table.{Place, Idle, R1, R3, R4, R5, R6, R7, Reader, Plan, Lock, status-level, phase, view, go}
+use Rattle.queues.specs.Table.{put-arrive, put-depart, row}
+use Rattle.queues.specs.Invariant.{load-of, gate, Within}
+use Rattle.queues.specs.Moves.{tag, AtRest, Apt, WayBack}
 use Rattle.queues.proofs.Sums.{total-same, total-zero}
 use Rattle.queues.proofs.Cases.{split}
 use Rattle.queues.proofs.Phases.{upd-same, upd-other}
 use Rattle.queues.proofs.QueueRows.{phase-at}
-use Rattle.queues.proofs.CounterRows.{gate-at, gate-phase, safe-job}
-use Rattle.queues.proofs.Reach.{Reach, here, as-list, onwards, Sum, Lower, Done, descend}
-use Rattle.queues.proofs.FirstStage.{Good, stage-1, row-other, by-step, by-leave-read, lowers, stage-one}
+use Rattle.queues.proofs.CounterRows.{gate-phase, safe-job}
+use Rattle.queues.proofs.Reach.{Reach, here, as-list, onwards, Sum, Lower, descend}
+use Rattle.queues.proofs.FirstStage.{Good, stage-1, by-step, by-leave-read, lowers, stage-one}
 use Rattle.queues.proofs.SecondStage.{number, Quiet, stage-2, stage-two}
 
 abbrev Still : Place → Type 0

@@ -1,12 +1,11 @@
 -- The rows of the one writer that stands for the bits: W7, W8, W9, U5, U6, U7; and a hand-over.
-use Prim.Native.Nat.{ℕ, zero, suc, _+_, _*_, _^_, _≤_, _<_}
-use mathlib.Core.Path.{_≡_, refl, sym, _∙_, ap, subst}
-use mathlib.Core.Logic.{_⊎_, inl, inr, _≢_, ⊎-elim}
+use Prim.Native.Nat.{ℕ, _+_, _*_, _≤_, _<_}
+use mathlib.Core.Path.{_≡_, sym, _∙_, subst}
+use mathlib.Core.Logic.{_≢_}
 use native.Mathlib.Omega.{arith}
 use Rattle.queues.specs.Machine.{On}
-use Rattle.queues.specs.Counters.{total, pick, Load, none, trying, inside, leaving, carrying, clearing, tries, admits}
-use Rattle.queues.specs.Counters.{clears, Gate, shut, raising, checking, reading, wide, lowering, Marks, Keeps, Tally}
-use Rattle.queues.specs.Counters.{write-bit, Count, Counted}
+use Rattle.queues.specs.Counters.{total, inside, tries, admits, clears, Gate, shut, raising, checking, reading, wide}
+use Rattle.queues.specs.Counters.{lowering, Marks, Keeps, Tally, write-bit, Count, Counted}
 use Rattle.queues.proofs.Cases.{split, split₂}
 use Rattle.queues.proofs.Counters.{Shift, moves, away}
 

@@ -1,7 +1,7 @@
 -- The counters of the tree lock, abstractly: what each rank carries of a counter, and how far a writer's bits are.
 use Prim.Native.Nat.{ℕ, zero, suc, _+_, _*_, _^_, _≤_, _<_}
 use mathlib.Core.Path.{_≡_}
-use mathlib.Core.Logic.{_⊎_, _≢_}
+use mathlib.Core.Logic.{_≢_}
 use mathlib.Core.Bool.{cond}
 use lib.Dec.{eqb}
 use Rattle.queues.specs.Machine.{On}

@@ -1,12 +1,10 @@
 -- The whole lock: places, words, queues and counters together.
-use Prim.Native.Nat.{ℕ, suc, _+_, _^_, _≤_, _<_}
-use mathlib.Core.Path.{_≡_}
+use Prim.Native.Nat.{ℕ, _<_}
 use mathlib.Core.Bool.{cond}
 use lib.Dec.{eqb, leb}
-use Rattle.queues.specs.Machine.{Tree, On}
+use Rattle.queues.specs.Machine.{Tree}
 use Rattle.queues.specs.Table.{Place, Idle, W1, W2, W3, W4, W5, W6, W7, W8, W9, U1, U2, U3, U4, U5, U6, U7, U8, U9}
 use Rattle.queues.specs.Table.{U10, R1, R2, R3, R4, R5, R6, R7, Writer, Reader, WAIT, Plan, Lock, status-level, Fine}
-use Rattle.queues.specs.Table.{upd}
 use Rattle.queues.specs.Counters.{Load, none, trying, inside, leaving, carrying, clearing, Gate, shut, raising}
 use Rattle.queues.specs.Counters.{checking, reading, wide, lowering, Tally, Counted}
 

@@ -5,7 +5,7 @@ use mathlib.Core.Bool.{cond}
 use lib.Dec.{leb}
 use Rattle.queues.specs.Machine.{Lawful, On}
 use Rattle.queues.specs.Counters.{write-bit}
-use Rattle.queues.specs.Table.{Place, Idle, W1, U1, U4, R1, R7, Writer, Reader, Plan, Lock, go, row}
+use Rattle.queues.specs.Table.{Idle, W1, U1, U4, R1, R7, Writer, Reader, Plan, Lock, go, row}
 
 -- nothing has happened yet
 abbrev pub fresh-lock : Lock
