@@ -50,7 +50,7 @@ module _ (t : Tree) (G : Geometry t) (ws : Words) (rs : List Record) (e : laid-a
         idle = λ p on. subst (λ (w : Presence). w .idle p ≡ true) present-is (idle-then p on);
         rest =
             subst (λ (x : State). At-rest t (x .words)) state-is
-            (at-rest t G s (r .1 .2 .0) (holds .safe) (rest .idles) _ _ (holds .shows));
+            (at-rest t _ _ s (holds .shows) rest);
       }
 
   lawful-after : (cs : List Call) → Lawful-after t start cs

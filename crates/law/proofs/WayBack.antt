@@ -9,11 +9,10 @@ use Rattle.plan.specs.Trees.{Tree, own-level}
 use Rattle.places.specs.Standings.{standing-at}
 use Rattle.places.specs.declared.place.Standing.the-variants.{UnderWay}
 use Rattle.lock.specs.Turns.{exit-of}
-use Rattle.queues.specs.Table.{Place, Idle, W1, W2, W3, W4, W5, W6, W7, W8, W9, U1, U2, U3, U4, U5, U6, U7, U8, U9}
-use Rattle.queues.specs.Table.{U10, R1, R2, R3, R4, R5, R6, R7, Writer, Reader, Plan, Lock, go}
-use Rattle.queues.specs.Moves.{Accepted, Accepts, AtRest, In, Leave as leave-move, Move, Step as step-move, act, exit}
+use Rattle.queues.specs.Table.{Place, Writer, Reader, Plan, Lock, go}
+use Rattle.queues.specs.Moves.{Accepted, Accepts, AtRest, Leave as leave-move, Move, Step as step-move, act, exit}
 use Rattle.queues.proofs.FirstStage.{Good}
-use Rattle.queues.proofs.OntoCalls.{back-onto, calls}
+use Rattle.queues.proofs.OntoCalls.{back-onto, calls, in-is}
 use Rattle.law.specs.Calls.{State, after, answer-to, answers, ran}
 use Rattle.law.specs.History.{History, written-down}
 use Rattle.law.specs.Presence.{Presence, seen, told}
@@ -57,38 +56,7 @@ Shown t b s = (bit : ℕ → ℕ) × Holds t (b .at .words) (b .at .records) (b 
 
 -- a step that the machine accepts is one of a rank under way
 under-way : (L : Plan) (s : Lock) (p : ℕ) (f : Place) → Accepts L s p f → standing-at f ≡ UnderWay
-under-way L s p Idle a = absurd a
-under-way L s p Writer a = absurd a
-under-way L s p Reader a = absurd a
-under-way L s p (W1 i) a = refl
-under-way L s p (W2 i) a = refl
-under-way L s p (W3 i) a = refl
-under-way L s p (W4 i h) a = refl
-under-way L s p (W5 i) a = refl
-under-way L s p (W6 i) a = refl
-under-way L s p (W7 k) a = refl
-under-way L s p (W8 k) a = refl
-under-way L s p (W9 k n) a = refl
-under-way L s p (U1 i) a = refl
-under-way L s p (U2 i n) a = refl
-under-way L s p (U3 i h n) a = refl
-under-way L s p U4 a = refl
-under-way L s p (U5 n) a = refl
-under-way L s p (U6 k) a = refl
-under-way L s p (U7 k n) a = refl
-under-way L s p (U8 i) a = refl
-under-way L s p (U9 i h) a = refl
-under-way L s p (U10 i) a = refl
-under-way L s p R1 a = refl
-under-way L s p R2 a = refl
-under-way L s p R3 a = refl
-under-way L s p R4 a = refl
-under-way L s p R5 a = refl
-under-way L s p (R6 n) a = refl
-under-way L s p R7 a = refl
-
-in-is : (f : Place) → In f → (f ≡ Writer) ⊎ (f ≡ Reader)
-in-is f h = grind (arith, tells)
+under-way L s p f a = grind (arith, tells)
 
 module _ (t : Tree) (G : Geometry t) where
   abbrev P : ℕ

@@ -2,9 +2,10 @@
 use Prim.Native.Nat.{ℕ}
 use mathlib.Core.Path.{_≡_, sym, subst}
 use mathlib.Core.Logic.{_≢_, ⊎-elim}
+use native.Mathlib.Omega.{arith}
+use Rattle.std.proofs.shelf.Ways.{tells}
 use Rattle.std.proofs.shelf.Tests.{cases-eq}
-use Rattle.queues.specs.Machine.{Tree, State, Phase, out, fresh, clean, ready, link, wait, hold, give, Calm, Waits}
-use Rattle.queues.specs.Machine.{Asks}
+use Rattle.queues.specs.Machine.{Tree, State, Phase, Calm, Waits, Asks}
 
 -- a claim on every number, from the claim at one and at the others
 pub split : (a : ℕ) (C : ℕ → Type 0) → C a → ((b : ℕ) → b ≢ a → C b) → (b : ℕ) → C b
@@ -16,21 +17,7 @@ split₂ a c C at-a at-c there =
 
 -- a calm phase asks nothing
 pub calm-asks : (T : Tree) (s : State) (p : ℕ) (f : Phase) → Calm f → Asks T s p f
-calm-asks T s p out c = tt
-calm-asks T s p (fresh i) c = tt
-calm-asks T s p (clean i) c = absurd c
-calm-asks T s p (ready i) c = absurd c
-calm-asks T s p (link i t) c = absurd c
-calm-asks T s p (wait i) c = absurd c
-calm-asks T s p (hold h) c = tt
-calm-asks T s p (give h i t) c = absurd c
+calm-asks T s p f c = grind (arith, tells)
 
 pub calm-waits : (f : Phase) → Calm f → (i : ℕ) → Waits f i → ⊥
-calm-waits out c i w = w
-calm-waits (fresh j) c i w = w
-calm-waits (clean j) c i w = w
-calm-waits (ready j) c i w = w
-calm-waits (link j t) c i w = c
-calm-waits (wait j) c i w = c
-calm-waits (hold h) c i w = w
-calm-waits (give h j t) c i w = w
+calm-waits f c i w = grind (arith, tells)

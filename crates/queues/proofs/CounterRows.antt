@@ -5,6 +5,7 @@ use mathlib.Core.Logic.{_⊎_, inl, inr, _≢_, ⊎-elim}
 use mathlib.Core.Bool.{Bool, true, false, cond}
 use lib.Dec.{eqb, leb, ltb}
 use native.Mathlib.Omega.{arith}
+use Rattle.std.proofs.shelf.Ways.{tells}
 use Rattle.std.proofs.shelf.Tests.{cases-eq, cases-lt, cond-both, eq-eqb, ne-eqb, le-leb, lt-leb, eqb-true, leb-false}
 use Rattle.std.proofs.shelf.Tests.{ltb-true, ltb-false}
 use Rattle.queues.specs.Machine.{Tree, Lawful, On, wait, hold, give, hold-level, InRange, Waits, Inv}
@@ -28,35 +29,7 @@ use Rattle.queues.specs.Jobs.{left-read, Exclusion}
 
 -- a gate reads a word at W5 alone
 pub gate-same : (f : Place) (w w′ : ℕ) → ((j : ℕ) → f ≡ W5 j → w′ ≡ w) → gate-of f w′ ≡ gate-of f w
-gate-same Idle w w′ e = refl
-gate-same (W1 i) w w′ e = refl
-gate-same (W2 i) w w′ e = refl
-gate-same (W3 i) w w′ e = refl
-gate-same (W4 i t) w w′ e = refl
-gate-same (W5 i) w w′ e = ap (gate-of (W5 i)) (e i refl)
-gate-same (W6 i) w w′ e = refl
-gate-same (W7 k) w w′ e = refl
-gate-same (W8 k) w w′ e = refl
-gate-same (W9 k n) w w′ e = refl
-gate-same (U1 i) w w′ e = refl
-gate-same (U2 i n) w w′ e = refl
-gate-same (U3 i t n) w w′ e = refl
-gate-same U4 w w′ e = refl
-gate-same (U5 n) w w′ e = refl
-gate-same (U6 k) w w′ e = refl
-gate-same (U7 k n) w w′ e = refl
-gate-same (U8 i) w w′ e = refl
-gate-same (U9 i t) w w′ e = refl
-gate-same (U10 i) w w′ e = refl
-gate-same R1 w w′ e = refl
-gate-same R2 w w′ e = refl
-gate-same R3 w w′ e = refl
-gate-same R4 w w′ e = refl
-gate-same R5 w w′ e = refl
-gate-same (R6 n) w w′ e = refl
-gate-same R7 w w′ e = refl
-gate-same Writer w w′ e = refl
-gate-same Reader w w′ e = refl
+gate-same f w w′ e = grind (arith, tells)
 
 gate-w5 : (top i : ℕ) (a b : Bool) → InRange top (cond a (wait i) (cond b (hold 1) (hold i)))
     → (cond a shut (cond b wide shut) ≡ shut)

@@ -3,9 +3,10 @@ use Prim.Native.Nat.{ℕ, zero, suc, _+_, _-_, _≤_, _<_}
 use mathlib.Core.Path.{_≡_, sym, _∙_, ap, subst, subst₂}
 use mathlib.Core.Logic.{_⊎_, inl, inr, _≢_, ⊎-elim}
 use native.Mathlib.Omega.{arith}
+use Rattle.std.proofs.shelf.Ways.{tells}
 use Rattle.std.proofs.shelf.Tests.{cases-eq}
-use Rattle.queues.specs.Machine.{Tree, Lawful, On, Phase, out, fresh, clean, ready, link, wait, hold, give}
-use Rattle.queues.specs.Machine.{hold-level, InRange, Waits, State, Inv, Holder, Member, Heads, Behind, Asks}
+use Rattle.queues.specs.Machine.{Tree, Lawful, On, Phase, link, wait, give, hold-level, InRange, Waits, State, Inv}
+use Rattle.queues.specs.Machine.{Holder, Member, Heads, Behind, Asks}
 
 pub range-of : (f : Phase) (top : ℕ) → InRange top f → (g : Phase) → f ≡ g → InRange top g
 range-of f top h g e = subst (λ (x : Phase). InRange top x) e h
@@ -34,34 +35,13 @@ asked T s v p f e = subst (Asks T s p) e (v .asks p)
 
 -- whoever waits at i holds all below it
 pub level-waits : (top : ℕ) (f : Phase) (i : ℕ) → Waits f i → hold-level top f ≡ suc i
-level-waits top (link j t) i w = ap suc w
-level-waits top (wait j) i w = ap suc w
-level-waits top out i w = absurd w
-level-waits top (fresh j) i w = absurd w
-level-waits top (clean j) i w = absurd w
-level-waits top (ready j) i w = absurd w
-level-waits top (hold j) i w = absurd w
-level-waits top (give h j t) i w = absurd w
+level-waits top f i w = grind (arith, tells)
 
 pub range-waits : (top : ℕ) (f : Phase) (i : ℕ) → InRange top f → Waits f i → On top i
-range-waits top (link j t) i r w = omega arith
-range-waits top (wait j) i r w = omega arith
-range-waits top out i r w = absurd w
-range-waits top (fresh j) i r w = absurd w
-range-waits top (clean j) i r w = absurd w
-range-waits top (ready j) i r w = absurd w
-range-waits top (hold j) i r w = absurd w
-range-waits top (give h j t) i r w = absurd w
+range-waits top f i r w = grind (arith, tells)
 
 pub waits-cases : (f : Phase) (i : ℕ) → Waits f i → (f ≡ wait i) ⊎ ((t : ℕ) × (f ≡ link i t))
-waits-cases (link j t) i w = inr (t, ap (λ x. link x t) w)
-waits-cases (wait j) i w = inl (ap wait w)
-waits-cases out i w = absurd w
-waits-cases (fresh j) i w = absurd w
-waits-cases (clean j) i w = absurd w
-waits-cases (ready j) i w = absurd w
-waits-cases (hold j) i w = absurd w
-waits-cases (give h j t) i w = absurd w
+waits-cases f i w = grind (arith, tells)
 
 module _ (T : Tree) (G : Lawful T) (s : State) (v : Inv T s) where
   -- two ranks that hold one element have one node there

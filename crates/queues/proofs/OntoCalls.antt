@@ -6,14 +6,13 @@ use mathlib.Core.List.{List, [], _∷_}
 use native.Mathlib.Omega.{arith}
 use Rattle.std.proofs.shelf.Ways.{tells}
 use Rattle.queues.specs.Table.{Place, Writer, Reader, Plan, Lock, go}
-use Rattle.queues.specs.Invariant.{Safe}
-use Rattle.queues.specs.Jobs.{Jobs, stepped, left-write, left-read}
-use Rattle.queues.specs.Moves.{Move, Step, Leave, In, exit, Accepted, act, play, Plays, AtRest, Apt}
-use Rattle.queues.proofs.Reach.{Reach, here, move, as-list}
+use Rattle.queues.specs.Moves.{Move, Step, Leave, In, exit, Accepted, act, AtRest, Apt}
+use Rattle.queues.proofs.Reach.{Reach, here, move}
 use Rattle.queues.proofs.FirstStage.{Good, good-step, good-leave-read, good-leave-write}
 use Rattle.queues.proofs.ThirdStage.{back}
 
-in-is : (f : Place) → In f → (f ≡ Writer) ⊎ (f ≡ Reader)
+-- a place from which a leave is accepted is one of the two inside
+pub in-is : (f : Place) → In f → (f ≡ Writer) ⊎ (f ≡ Reader)
 in-is f h = grind (arith, tells)
 
 -- the calls of a list on a machine, and that each is accepted
@@ -35,24 +34,6 @@ module _ (P : ℕ) (L : Plan) (g : Apt P L) where
       (λ (e : s .place p ≡ Reader).
       subst (λ f. Good P L (go s p (exit L p f))) (sym e) (good-leave-read P L g s v p (a .0) e))
       (in-is (s .place p) (a .1))
-
-  -- and is a call of a job
-  pub job-act : (s : Lock) → Jobs P L s → (m : Move) → Accepted P L s m → Jobs P L (act L s m)
-  job-act s j (Step p) a = stepped s p (g .all p (a .0)) j
-  job-act s j (Leave p) a = ⊎-elim
-      (λ (e : s .place p ≡ Writer). subst (λ f. Jobs P L (go s p (exit L p f))) (sym e) (left-write s p e j))
-      (λ (e : s .place p ≡ Reader). subst (λ f. Jobs P L (go s p (exit L p f))) (sym e) (left-read s p (a .0) e j))
-      (in-is (s .place p) (a .1))
-
-  pub job-play : (ms : List Move) (s : Lock) → Jobs P L s → Plays P L s ms → Jobs P L (play L s ms)
-  unfolding play Plays
-  job-play [] s j a = j
-  job-play (m ∷ ms) s j a = job-play ms (act L s m) (job-act s j m (a .0)) (a .1)
-
-  -- from every safe state, whether or not a job leads to it
-  pub safe-back : (s : Lock) (bit : ℕ → ℕ) → Safe P L s bit
-      → (ms : List Move) × Plays P L s ms × AtRest P L (play L s ms)
-  safe-back s bit v = as-list P L (AtRest P L) s (back P L g s (record { bit = bit; safe = v }))
 
   -- what has to be shown of a machine: each move that the lock accepts from a safe state it accepts too, and it goes
   -- on showing the lock

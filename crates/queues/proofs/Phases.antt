@@ -1,12 +1,13 @@
 -- From places and words to phases: what a row changes of the view.
 use Prim.Native.Nat.{ℕ, suc, _≤_, _<_}
-use mathlib.Core.Path.{_≡_, refl, _∙_, ap, subst}
+use mathlib.Core.Path.{_≡_, refl, _∙_, ap}
 use mathlib.Core.Logic.{_⊎_, inl, inr, _≢_, ⊎-elim}
 use mathlib.Core.Bool.{Bool, true, false, cond}
 use lib.Dec.{eqb, leb}
 use native.Mathlib.Omega.{arith}
+use Rattle.std.proofs.shelf.Ways.{tells}
 use Rattle.std.proofs.shelf.Tests.{cases-eq, eq-eqb, ne-eqb, le-leb, lt-leb}
-use Rattle.queues.specs.Machine.{Tree, On, wait, hold, hold-level, InRange, State, Inv}
+use Rattle.queues.specs.Machine.{On, wait, hold, hold-level, InRange}
 use Rattle.queues.specs.Table.{Place, Idle, W1, W2, W3, W4, W5, W6, W7, W8, W9, U1, U2, U3, U4, U5, U6, U7, U8, U9}
 use Rattle.queues.specs.Table.{U10, R1, R2, R3, R4, R5, R6, R7, Writer, Reader, WAIT, told-status, Plan, upd}
 use Rattle.queues.specs.Table.{phase-of, status-level, Counts, Sound}
@@ -19,53 +20,9 @@ pub upd-other : {A : Type 0} (f : ℕ → A) (a : ℕ) (v : A) (b : ℕ) → b �
 unfolding upd
 upd-other f a v b h = rw (ne-eqb b a h)
 
--- THE FRAME: states with the same values have the same invariant
-pub framed : (T : Tree) (s s′ : State) → ((p : ℕ) → s .phases p ≡ s′ .phases p) → ((h : ℕ) → s .nexts h ≡ s′ .nexts h)
-    → ((k : ℕ) → s .tails k ≡ s′ .tails k) → ((k a : ℕ) → s .node-at k a ≡ s′ .node-at k a)
-    → ((k : ℕ) → s .head-turn k ≡ s′ .head-turn k) → ((k : ℕ) → s .next-turn k ≡ s′ .next-turn k) → Inv T s → Inv T s′
-framed T s s′ a b c d e f v = subst (Inv T)
-    (λ i.
-    record {
-      phases = λ p. a p i;
-      nexts = λ h. b h i;
-      tails = λ k. c k i;
-      node-at = λ k n. d k n i;
-      head-turn = λ k. e k i;
-      next-turn = λ k. f k i;
-    })
-    v
-
 -- a phase reads a word at W5 alone
 pub phase-same : (f : Place) (w w′ : ℕ) → ((j : ℕ) → f ≡ W5 j → w′ ≡ w) → phase-of f w′ ≡ phase-of f w
-phase-same (W5 j) w w′ e = ap (phase-of (W5 j)) (e j refl)
-phase-same Idle w w′ e = refl
-phase-same (W1 i) w w′ e = refl
-phase-same (W2 i) w w′ e = refl
-phase-same (W3 i) w w′ e = refl
-phase-same (W4 i t) w w′ e = refl
-phase-same (W6 i) w w′ e = refl
-phase-same (W7 n) w w′ e = refl
-phase-same (W8 n) w w′ e = refl
-phase-same (W9 n a) w w′ e = refl
-phase-same (U1 i) w w′ e = refl
-phase-same (U2 i n) w w′ e = refl
-phase-same (U3 i t n) w w′ e = refl
-phase-same U4 w w′ e = refl
-phase-same (U5 n) w w′ e = refl
-phase-same (U6 n) w w′ e = refl
-phase-same (U7 n a) w w′ e = refl
-phase-same (U8 i) w w′ e = refl
-phase-same (U9 i t) w w′ e = refl
-phase-same (U10 i) w w′ e = refl
-phase-same R1 w w′ e = refl
-phase-same R2 w w′ e = refl
-phase-same R3 w w′ e = refl
-phase-same R4 w w′ e = refl
-phase-same R5 w w′ e = refl
-phase-same (R6 n) w w′ e = refl
-phase-same R7 w w′ e = refl
-phase-same Writer w w′ e = refl
-phase-same Reader w w′ e = refl
+phase-same f w w′ e = grind (arith, tells)
 
 -- the three phases of W5
 pub w5-wait : (i w : ℕ) → w ≡ WAIT → phase-of (W5 i) w ≡ wait i

@@ -1,21 +1,16 @@
 -- The way back to idle, a sample: somebody can always move, and each move that does not wait lowers a number.
-use Prim.Native.Nat.{ℕ, zero, suc, pred, _+_, _-_, _*_, _^_, _≤_, _<_}
+use Prim.Native.Nat.{ℕ, zero, suc, _+_, _^_, _≤_, _<_}
 use mathlib.Core.Path.{_≡_, refl, sym, _∙_, ap, subst}
 use mathlib.Core.Logic.{_⊎_, inl, inr, _≢_, ⊎-elim}
-use mathlib.Core.Bool.{Bool, true, false, cond}
-use lib.Dec.{eqb, leb, ltb}
 use native.Mathlib.Omega.{arith}
-use Rattle.std.proofs.shelf.Tests.{cases-eq, cond-both, eq-eqb, ne-eqb, le-leb, lt-leb, leb-true, eqb-false, ltb-true}
-use Rattle.std.proofs.shelf.Tests.{ltb-false}
+use Rattle.std.proofs.shelf.Tests.{cases-eq}
 use Rattle.queues.specs.Machine.{Tree, Lawful, On, Phase, out, fresh, clean, ready, link, wait, hold, give}
 use Rattle.queues.specs.Machine.{hold-level, InRange, Waits, State, Inv, Holder, Member, Heads, Behind}
 use Rattle.queues.specs.Table.{Place, Idle, W1, W2, W3, W4, W5, W6, W7, W8, W9, U1, U2, U3, U4, U5, U6, U7, U8, U9}
-use Rattle.queues.specs.Table.{U10, R1, R2, R3, R4, R5, R6, R7, Writer, Reader, WAIT, told-status, Plan, Lock, go}
-use Rattle.queues.specs.Table.{row, done, next}
+use Rattle.queues.specs.Table.{U10, R1, R2, R3, R4, R5, R6, R7, Writer, Reader, told-status, Plan, Lock}
 use Rattle.queues.specs.Counters.{total, tries, admits, clears, Tally, Counted}
 use Rattle.queues.proofs.OneHolder.{asked, waits-cases, turn-is}
 use Rattle.queues.proofs.Sums.{total-same, total-zero, total-swap}
-use Rattle.queues.proofs.Phases.{upd-same, told-large}
 
 -- does a phase wait for a STATUS
 pub waits-or : (f : Phase) → ((i : ℕ) × (f ≡ wait i)) ⊎ ((i : ℕ) → f ≢ wait i)
@@ -54,38 +49,6 @@ mover T G s v zero i p l e =
     let o : On (T .own-level p) i = subst (InRange (T .own-level p)) e (v .range p) in absurd (omega arith)
 mover T G s v (suc d) i p l e = onward T G s v d i p l e (λ j q m w. mover T G s v d j q m w)
 
--- how many rows lie ahead of a place, on the longest way that does not wait
-abbrev pub ahead : ℕ → ℕ → Place → ℕ
-ahead N C Idle = 0
-ahead N C (U10 i) = 3 * (N - i) + 2
-ahead N C (U9 i t) = 3 * (N - i) + 2
-ahead N C (U8 i) = 3 * (N - i) + 3
-ahead N C (U7 k n) = 3 * N + 2 * (C - k)
-ahead N C (U6 k) = 3 * N + 2 * (C - k) + 1
-ahead N C (U3 i t n) = 3 * N + 1
-ahead N C (U5 n) = 3 * N + 2 * C + 2
-ahead N C U4 = 3 * N + 2 * C + 3
-ahead N C (U2 i n) = 3 * N + 2 * C + 2 * i + 3
-ahead N C (U1 i) = 3 * N + 2 * C + 2 * i + 4
-ahead N C Writer = 5 * N + 2 * C + 5
-ahead N C (W9 k n) = 5 * N + 4 * C + 5 - 2 * k
-ahead N C (W8 k) = 5 * N + 4 * C + 6 - 2 * k
-ahead N C (W7 k) = 5 * N + 5 * C + 7 - k
-ahead N C (W6 i) = 5 * N + 5 * C + 6 * i + 8
-ahead N C (W5 i) = 5 * N + 5 * C + 6 * i + 9
-ahead N C (W4 i t) = 5 * N + 5 * C + 6 * i + 10
-ahead N C (W3 i) = 5 * N + 5 * C + 6 * i + 11
-ahead N C (W2 i) = 5 * N + 5 * C + 6 * i + 12
-ahead N C (W1 i) = 5 * N + 5 * C + 6 * i + 13
-ahead N C R1 = 0
-ahead N C R2 = 0
-ahead N C R3 = 0
-ahead N C R4 = 0
-ahead N C R5 = 0
-ahead N C (R6 n) = 0
-ahead N C R7 = 0
-ahead N C Reader = 0
-
 -- a place from which the next row does not wait
 abbrev pub Able : Plan → Lock → ℕ → Place → Type 0
 Able L s p Idle = ⊥
@@ -117,105 +80,6 @@ Able L s p (R6 n) = ⊥
 Able L s p R7 = ⊥
 Able L s p Writer = ⊥
 Able L s p Reader = ⊥
-
-module _ (L : Plan) (s : Lock) (p : ℕ) where
-  abbrev N : ℕ
-  N = L .tree .own-level p
-
-  abbrev C : ℕ
-  C = L .counters
-
-  -- the place after a row lies below the bound
-  abbrev Below : ℕ → Place → Type 0
-  Below m f = ahead N C f < m
-
-  to : (m : ℕ) (s₁ : Lock) (f : Place) → Below m f → Below m (go s₁ p f .place p)
-  to m s₁ f h = rw (upd-same (s₁ .place) p f) h
-
-  done-below : (i m : ℕ) → On N i → 3 * (N - i) + 2 ≤ m → Below m (done L s p i)
-  done-below i m on l = cond-both (eqb i N) Idle (U8 (suc i)) (Below m)
-      (λ _. omega arith)
-      (λ z. let ne : i ≢ N = eqb-false i N z in omega arith)
-
-  next-below : (k m : ℕ) (end : Place) (more : ℕ → Place) → (suc k < C → Below m (more (suc k)))
-      → (C ≤ suc k → Below m end) → Below m (next L s p k end more)
-  next-below k m end more a b = cond-both (ltb (suc k) C) (more (suc k)) end (Below m)
-      (λ z. a (ltb-true (suc k) C z))
-      (λ z. b (ltb-false (suc k) C z))
-
-  choice : (m : ℕ) (b d : Bool) (f g : Place) → Below m f → Below m g → Below m (cond b f (cond d g f))
-  choice m true d f g x y = x
-  choice m false true f g x y = y
-  choice m false false f g x y = x
-
-  pub falls : (f : Place) → Able L s p f → Below (ahead N C f) (row L s p f .place p)
-  falls Idle a = absurd a
-  falls (W1 i) a = to (ahead N C (W1 i)) s (W2 i) (omega arith)
-  falls (W2 i) a = to (ahead N C (W2 i)) s (W3 i) (omega arith)
-  falls (W3 i) a = to (ahead N C (W3 i)) s
-      (cond (eqb (s .tails (L .tree .element p i)) 0) (W6 i) (W4 i (s .tails (L .tree .element p i))))
-      (cond-both (eqb (s .tails (L .tree .element p i)) 0) (W6 i) (W4 i (s .tails (L .tree .element p i)))
-      (Below (ahead N C (W3 i)))
-      (λ _. omega arith)
-      (λ _. omega arith))
-  falls (W4 i t) a = to (ahead N C (W4 i t)) s (W5 i) (omega arith)
-  falls (W5 i) (inl a) =
-      let w = s .statuses (L .tree .node p i) in
-      rw (ne-eqb w WAIT (omega arith), le-leb w 1000 a) (to (ahead N C (W5 i)) s Writer (omega arith))
-  falls (W5 i) (inr a) =
-      let w = s .statuses (L .tree .node p i) in
-      let b : (WAIT < told-status i) × (1000 < told-status i) = told-large i in
-      rw (ne-eqb w WAIT (omega arith), lt-leb w 1000 (omega arith), eq-eqb w (told-status i) a)
-      (to (ahead N C (W5 i)) s (W6 i) (omega arith))
-  falls (W6 i) a = to (ahead N C (W6 i)) s (cond (leb 2 i) (W1 (pred i)) (W7 0))
-      (cond-both (leb 2 i) (W1 (pred i)) (W7 0) (Below (ahead N C (W6 i)))
-      (λ z. omega (arith, leb-true 2 i z))
-      (λ _. omega arith))
-  falls (W7 k) a = to (ahead N C (W7 k)) s (next L s p k (W8 0) W7)
-      (next-below k (ahead N C (W7 k)) (W8 0) W7 (λ z. omega arith) (λ z. omega arith))
-  falls (W8 k) a = to (ahead N C (W8 k)) s (W9 k (s .arrives k)) (omega arith)
-  falls (W9 k n) a = rw (eq-eqb n (2 ^ 62 + s .departs k) (a .1))
-      (to (ahead N C (W9 k n)) s (next L s p k Writer W8)
-      (next-below k (ahead N C (W9 k n)) Writer W8 (λ z. omega arith) (λ z. omega arith)))
-  falls (U1 i) a = to (ahead N C (U1 i)) s (U2 i (s .statuses (L .tree .node p i))) (omega arith)
-  falls (U2 i n) a = to (ahead N C (U2 i n)) s
-      (cond (eqb (s .nexts (L .tree .node p i)) 0) (cond (leb i 2) U4 (U1 (pred i)))
-      (cond (ltb n (L .hand-over-limit p i)) (U3 i (s .nexts (L .tree .node p i)) (suc n))
-      (cond (leb i 2) U4 (U1 (pred i)))))
-      (choice (ahead N C (U2 i n)) (eqb (s .nexts (L .tree .node p i)) 0) (ltb n (L .hand-over-limit p i))
-      (cond (leb i 2) U4 (U1 (pred i))) (U3 i (s .nexts (L .tree .node p i)) (suc n))
-      (cond-both (leb i 2) U4 (U1 (pred i)) (Below (ahead N C (U2 i n)))
-      (λ z. omega arith)
-      (λ z. omega arith))
-      (omega arith))
-  falls (U3 i t n) a = to (ahead N C (U3 i t n)) s (done L s p i) (done-below i (ahead N C (U3 i t n)) a (omega arith))
-  falls U4 a = to (ahead N C U4) s (U5 (s .statuses (L .tree .node p 1))) (omega arith)
-  falls (U5 n) a = to (ahead N C (U5 n)) s
-      (cond (eqb (s .nexts (L .tree .node p 1)) 0) (U6 0)
-      (cond (ltb n (L .hand-over-limit p 1)) (U3 1 (s .nexts (L .tree .node p 1)) (suc n)) (U6 0)))
-      (choice (ahead N C (U5 n)) (eqb (s .nexts (L .tree .node p 1)) 0) (ltb n (L .hand-over-limit p 1)) (U6 0)
-      (U3 1 (s .nexts (L .tree .node p 1)) (suc n)) (omega arith) (omega arith))
-  falls (U6 k) a = to (ahead N C (U6 k)) s (U7 k (s .departs k)) (omega arith)
-  falls (U7 k n) a = to (ahead N C (U7 k n)) s (next L s p k (U8 1) U6)
-      (next-below k (ahead N C (U7 k n)) (U8 1) U6 (λ z. omega arith) (λ z. omega arith))
-  falls (U8 i) a = to (ahead N C (U8 i)) s
-      (cond (eqb (s .nexts (L .tree .node p i)) 0) (U10 i) (U9 i (s .nexts (L .tree .node p i))))
-      (cond-both (eqb (s .nexts (L .tree .node p i)) 0) (U10 i) (U9 i (s .nexts (L .tree .node p i)))
-      (Below (ahead N C (U8 i)))
-      (λ _. omega arith)
-      (λ _. omega arith))
-  falls (U9 i t) a = to (ahead N C (U9 i t)) s (done L s p i) (done-below i (ahead N C (U9 i t)) a (omega arith))
-  falls (U10 i) a = rw (eq-eqb (s .tails (L .tree .element p i)) (L .tree .node p i) (a .1))
-      (to (ahead N C (U10 i)) s (done L s p i) (done-below i (ahead N C (U10 i)) (a .0) (omega arith)))
-  falls R1 a = absurd a
-  falls R2 a = absurd a
-  falls R3 a = absurd a
-  falls R4 a = absurd a
-  falls R5 a = absurd a
-  falls (R6 n) a = absurd a
-  falls R7 a = absurd a
-  falls Writer a = absurd a
-  falls Reader a = absurd a
 
 -- who stands behind a holder whose node is not the tail: it has linked itself, or is about to
 pub record Follower (T : Tree) (s : State) (p i : ℕ) : Type 0 where

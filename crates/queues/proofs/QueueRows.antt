@@ -5,6 +5,7 @@ use mathlib.Core.Logic.{_⊎_, inl, inr, _≢_, ⊎-elim}
 use mathlib.Core.Bool.{Bool, true, false, cond}
 use lib.Dec.{eqb, leb, ltb}
 use native.Mathlib.Omega.{arith}
+use Rattle.std.proofs.shelf.Ways.{tells}
 use Rattle.std.proofs.shelf.Tests.{cases-eq, cases-order, cond-both, eqb-true, eqb-false, leb-true, leb-false}
 use Rattle.std.proofs.shelf.Tests.{ltb-true}
 use Rattle.queues.specs.Machine.{Tree, Lawful, On, Phase, out, fresh, clean, ready, link, wait, hold, give}
@@ -12,7 +13,7 @@ use Rattle.queues.specs.Machine.{hold-level, InRange, Waits, Calm, Asks, Inv}
 use Rattle.queues.specs.Table.{Place, Idle, W1, W2, W3, W4, W5, W6, W7, W8, W9, U1, U2, U3, U4, U5, U6, U7, U8, U9}
 use Rattle.queues.specs.Table.{U10, R1, R2, R3, R4, R5, R6, R7, Writer, Reader, WAIT, told-status, Plan, Lock, upd}
 use Rattle.queues.specs.Table.{phase-of, status-level, phase, view, Counts, Sound, Fine, go, put-status, join, drop}
-use Rattle.queues.specs.Table.{free, done, next, row, step}
+use Rattle.queues.specs.Table.{free, done, next, row}
 use Rattle.queues.specs.Jobs.{fresh-lock}
 use Rattle.queues.proofs.OneHolder.{one-owner, one-holder, range-of, asked, Successor, successor}
 use Rattle.queues.proofs.Cases.{split, calm-asks, calm-waits}
@@ -44,35 +45,7 @@ w5-waits i j false true e = cc
 w5-waits i j false false e = cc
 
 pub only-W5 : (f : Place) (w i : ℕ) → phase-of f w ≡ wait i → f ≡ W5 i
-only-W5 (W5 j) w i e = w5-waits i j (eqb w WAIT) (leb w 1000) e
-only-W5 Idle w i e = cc
-only-W5 (W1 j) w i e = cc
-only-W5 (W2 j) w i e = cc
-only-W5 (W3 j) w i e = cc
-only-W5 (W4 j t) w i e = cc
-only-W5 (W6 j) w i e = cc
-only-W5 (W7 n) w i e = cc
-only-W5 (W8 n) w i e = cc
-only-W5 (W9 n a) w i e = cc
-only-W5 (U1 j) w i e = cc
-only-W5 (U2 j n) w i e = cc
-only-W5 (U3 j t n) w i e = cc
-only-W5 U4 w i e = cc
-only-W5 (U5 n) w i e = cc
-only-W5 (U6 n) w i e = cc
-only-W5 (U7 n a) w i e = cc
-only-W5 (U8 j) w i e = cc
-only-W5 (U9 j t) w i e = cc
-only-W5 (U10 j) w i e = cc
-only-W5 R1 w i e = cc
-only-W5 R2 w i e = cc
-only-W5 R3 w i e = cc
-only-W5 R4 w i e = cc
-only-W5 R5 w i e = cc
-only-W5 (R6 n) w i e = cc
-only-W5 R7 w i e = cc
-only-W5 Writer w i e = cc
-only-W5 Reader w i e = cc
+only-W5 f w i e = grind (arith, tells)
 
 -- where a rank stands when a level is done
 pub done-ok : (top i : ℕ) → On top i → (b : Bool) → eqb i top ≡ b → (w : ℕ)
@@ -757,23 +730,3 @@ fine-start L =
       };
       sound = λ p. tt;
     }
-
--- a job: any calls, in any order
-pub data Job (L : Plan) : Lock → Type 0 where
-  start : Job L fresh-lock
-  stepped : (s : Lock) (p : ℕ) → On (L .tree .own-level p) 1 → Job L s → Job L (step L s p)
-  asked-write : (s : Lock) (p : ℕ) → On (L .tree .own-level p) 1 → s .place p ≡ Idle → Job L s
-      → Job L (go s p (W1 (L .tree .own-level p)))
-  asked-read : (s : Lock) (p : ℕ) → s .place p ≡ Idle → Job L s → Job L (go s p R1)
-  left-write : (s : Lock) (p : ℕ) → s .place p ≡ Writer → Job L s
-      → Job L (go s p (cond (leb (L .tree .own-level p) 1) U4 (U1 (L .tree .own-level p))))
-  left-read : (s : Lock) (p : ℕ) → s .place p ≡ Reader → Job L s → Job L (go s p R7)
-
-pub fine-job : (L : Plan) → Lawful (L .tree) → ((q j : ℕ) → L .hand-over-limit q j ≤ 1000) → (s : Lock) → Job L s
-    → Fine L s
-fine-job L G small s start = fine-start L
-fine-job L G small s (stepped s₀ p o j) = fine-row L G small s₀ (fine-job L G small s₀ j) p o (s₀ .place p) refl
-fine-job L G small s (asked-write s₀ p o e j) = fine-ask-write L G small s₀ (fine-job L G small s₀ j) p o e
-fine-job L G small s (asked-read s₀ p e j) = fine-ask-read L G small s₀ (fine-job L G small s₀ j) p e
-fine-job L G small s (left-write s₀ p e j) = fine-leave-write L G small s₀ (fine-job L G small s₀ j) p e
-fine-job L G small s (left-read s₀ p e j) = fine-leave-read L G small s₀ (fine-job L G small s₀ j) p e

@@ -210,9 +210,6 @@ module _ (L : Plan) (s : Lock) (p : ℕ) where
   row Writer = s
   row Reader = s
 
-  abbrev pub step : Lock
-  step = row (s .place p)
-
 -- what the queues see of a place; w is the STATUS of the node that waits, at W5
 abbrev pub phase-of : Place → ℕ → Phase
 phase-of Idle w = out
