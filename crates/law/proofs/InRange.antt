@@ -1,12 +1,13 @@
 -- Under the invariant no step is refused: all fields and homes are in range.
 use Prim.Native.Nat.{ℕ, _≤_}
-use mathlib.Core.Path.{_≡_, refl, sym, _∙_, subst}
+use mathlib.Core.Path.{_≡_, sym, _∙_, subst}
 use mathlib.Core.Bool.{true}
 use lib.Dec.{leb}
 use native.Mathlib.Omega.{arith}
+use Rattle.std.proofs.shelf.Ways.{tells}
 use Rattle.std.specs.declared.option.Option.{Option}
 use Rattle.std.specs.declared.option.Option.the-variants.{Some, None}
-use Rattle.std.proofs.shelf.Tests.{and-from, le-leb, lt-ltb}
+use Rattle.std.proofs.shelf.Tests.{and-from, le-leb}
 use Rattle.plan.specs.Shapes.{within}
 use Rattle.plan.specs.Trees.{Tree, counters, homes, node-home, own-counter, own-counter-home, own-level, element-home}
 use Rattle.places.specs.declared.access.Access.{Access}
@@ -26,38 +27,7 @@ from-on : (low high n : ℕ) → low ≤ n → n ≤ high → within low high n 
 from-on low high n a b = and-from (leb low n) (leb n high) (le-leb low n a) (le-leb n high b)
 
 pub fits-ranged : (t : Tree) (p : ℕ) (f : Place) → Ranged t p f → fits t p f ≡ true
-fits-ranged t p Idle r = refl
-fits-ranged t p (W1 i) r = from-on 1 (own-level t p) i (r .from) (r .upto)
-fits-ranged t p (W2 i) r = from-on 1 (own-level t p) i (r .from) (r .upto)
-fits-ranged t p (W3 i) r = from-on 1 (own-level t p) i (r .from) (r .upto)
-fits-ranged t p (W4 i h) r = and-from _ _ (from-on 1 (own-level t p) i (r .0 .from) (r .0 .upto))
-    (from-on 1 (homes t) h (r .1 .from) (r .1 .upto))
-fits-ranged t p (W5 i) r = from-on 1 (own-level t p) i (r .from) (r .upto)
-fits-ranged t p (W6 i) r = from-on 1 (own-level t p) i (r .from) (r .upto)
-fits-ranged t p (W7 k) r = lt-ltb k (counters t) r
-fits-ranged t p (W8 k) r = lt-ltb k (counters t) r
-fits-ranged t p (W9 k n) r = lt-ltb k (counters t) r
-fits-ranged t p (U1 i) r = from-on 2 (own-level t p) i (r .0) (r .1)
-fits-ranged t p (U2 i n) r = from-on 2 (own-level t p) i (r .0) (r .1)
-fits-ranged t p (U3 i h n) r = and-from _ _ (from-on 1 (own-level t p) i (r .0 .from) (r .0 .upto))
-    (from-on 1 (homes t) h (r .1 .from) (r .1 .upto))
-fits-ranged t p U4 r = refl
-fits-ranged t p (U5 n) r = refl
-fits-ranged t p (U6 k) r = lt-ltb k (counters t) r
-fits-ranged t p (U7 k n) r = lt-ltb k (counters t) r
-fits-ranged t p (U8 i) r = from-on 1 (own-level t p) i (r .from) (r .upto)
-fits-ranged t p (U9 i h) r = and-from _ _ (from-on 1 (own-level t p) i (r .0 .from) (r .0 .upto))
-    (from-on 1 (homes t) h (r .1 .from) (r .1 .upto))
-fits-ranged t p (U10 i) r = from-on 1 (own-level t p) i (r .from) (r .upto)
-fits-ranged t p R1 r = refl
-fits-ranged t p R2 r = refl
-fits-ranged t p R3 r = refl
-fits-ranged t p R4 r = refl
-fits-ranged t p R5 r = refl
-fits-ranged t p (R6 n) r = refl
-fits-ranged t p R7 r = refl
-fits-ranged t p Writer r = refl
-fits-ranged t p Reader r = refl
+fits-ranged t p f r = grind (arith, tells)
 
 -- the homes of a rank's operation
 abbrev pub Reach : Tree → Option Access → Type 0

@@ -2,8 +2,9 @@
 use Prim.Native.Nat.{ℕ}
 use mathlib.Core.Bool.{Bool, true, false, cond}
 use mathlib.Core.Logic.{_⊎_}
-use mathlib.Core.Path.{_≡_}
+use mathlib.Core.Path.{_≡_, refl}
 use native.Mathlib.Omega.{arith}
+use Rattle.std.proofs.shelf.Ways.{tells}
 use Rattle.std.specs.declared.result.Result.{Result}
 use Rattle.std.specs.declared.result.Result.the-variants.{Ok, Err}
 use Rattle.refusal.specs.declared.Refusal.{Refusal}
@@ -52,35 +53,7 @@ Linked (Err e) r b = Unit {0}
 Linked (Ok m) r b = Link (m .place) r (cond (is-entered (m .answer)) true b)
 
 pub linked : (t : Tree) (p : ℕ) (r : Role) (b : Bool) (f : Place) (w : ℕ) → Link f r b → Linked (next-of t p f w) r b
-linked t p r b Idle w k = tt
-linked t p r b (W1 i) w k = k
-linked t p r b (W2 i) w k = k
-linked t p r b (W3 i) w k = grind arith
-linked t p r b (W4 i y) w k = k
-linked t p r b (W5 i) w k = grind arith
-linked t p r b (W6 i) w k = grind arith
-linked t p r b (W7 c) w k = grind arith
-linked t p r b (W8 c) w k = k
-linked t p r b (W9 c n) w k = grind arith
-linked t p r b (U1 i) w k = k
-linked t p r b (U2 i n) w k = grind arith
-linked t p r b (U3 i y n) w k = grind arith
-linked t p r b U4 w k = k
-linked t p r b (U5 n) w k = grind arith
-linked t p r b (U6 c) w k = k
-linked t p r b (U7 c n) w k = grind arith
-linked t p r b (U8 i) w k = grind arith
-linked t p r b (U9 i y) w k = grind arith
-linked t p r b (U10 i) w k = grind arith
-linked t p r b R1 w k = grind arith
-linked t p r b R2 w k = k
-linked t p r b R3 w k = grind arith
-linked t p r b R4 w k = grind arith
-linked t p r b R5 w k = k
-linked t p r b (R6 n) w k = k
-linked t p r b R7 w k = k
-linked t p r b Writer w k = tt
-linked t p r b Reader w k = tt
+linked t p r b f w k = grind (arith, tells)
 
 -- who is inside as a writer is at the writer's place
 pub at-writes : (f : Place) (r : Role) (b : Bool) → Link f r b → b ≡ true → r ≡ writer → f ≡ Writer
@@ -95,35 +68,8 @@ Rests n (Err e) = Unit {0}
 Rests n (Ok m) = cond (is-free (m .answer)) true n ≡ true → m .place ≡ Idle
 
 pub rested : (t : Tree) (p : ℕ) (n : Bool) (f : Place) (w : ℕ) → (n ≡ true → f ≡ Idle) → Rests n (next-of t p f w)
-rested t p n Idle w h = grind arith
-rested t p n (W1 i) w h = grind arith
-rested t p n (W2 i) w h = grind arith
-rested t p n (W3 i) w h = grind arith
-rested t p n (W4 i y) w h = grind arith
-rested t p n (W5 i) w h = grind arith
-rested t p n (W6 i) w h = grind arith
-rested t p n (W7 k) w h = grind arith
-rested t p n (W8 k) w h = grind arith
-rested t p n (W9 k m) w h = grind arith
-rested t p n (U1 i) w h = grind arith
-rested t p n (U2 i m) w h = grind arith
-rested t p n (U3 i y m) w h = grind arith
-rested t p n U4 w h = grind arith
-rested t p n (U5 m) w h = grind arith
-rested t p n (U6 k) w h = grind arith
-rested t p n (U7 k m) w h = grind arith
-rested t p n (U8 i) w h = grind arith
-rested t p n (U9 i y) w h = grind arith
-rested t p n (U10 i) w h = grind arith
-rested t p n R1 w h = grind arith
-rested t p n R2 w h = grind arith
-rested t p n R3 w h = grind arith
-rested t p n R4 w h = grind arith
-rested t p n R5 w h = grind arith
-rested t p n (R6 m) w h = grind arith
-rested t p n R7 w h = grind arith
-rested t p n Writer w h = grind arith
-rested t p n Reader w h = grind arith
+rested t p true f w h = rw (h refl) tt
+rested t p false f w h = grind (arith, tells)
 
 -- and who becomes idle answers free
 abbrev pub Frees : Bool → Result Next Refusal → Type 0
@@ -131,32 +77,4 @@ Frees n (Err e) = Unit {0}
 Frees n (Ok m) = m .place ≡ Idle → cond (is-free (m .answer)) true n ≡ true
 
 pub freed : (t : Tree) (p : ℕ) (n : Bool) (f : Place) (w : ℕ) → Frees n (next-of t p f w)
-freed t p n Idle w = grind arith
-freed t p n (W1 i) w = grind arith
-freed t p n (W2 i) w = grind arith
-freed t p n (W3 i) w = grind arith
-freed t p n (W4 i y) w = grind arith
-freed t p n (W5 i) w = grind arith
-freed t p n (W6 i) w = grind arith
-freed t p n (W7 k) w = grind arith
-freed t p n (W8 k) w = grind arith
-freed t p n (W9 k m) w = grind arith
-freed t p n (U1 i) w = grind arith
-freed t p n (U2 i m) w = grind arith
-freed t p n (U3 i y m) w = grind arith
-freed t p n U4 w = grind arith
-freed t p n (U5 m) w = grind arith
-freed t p n (U6 k) w = grind arith
-freed t p n (U7 k m) w = grind arith
-freed t p n (U8 i) w = grind arith
-freed t p n (U9 i y) w = grind arith
-freed t p n (U10 i) w = grind arith
-freed t p n R1 w = grind arith
-freed t p n R2 w = grind arith
-freed t p n R3 w = grind arith
-freed t p n R4 w = grind arith
-freed t p n R5 w = grind arith
-freed t p n (R6 m) w = grind arith
-freed t p n R7 w = grind arith
-freed t p n Writer w = grind arith
-freed t p n Reader w = grind arith
+freed t p n f w = grind (arith, tells)

@@ -1,7 +1,7 @@
 -- The counters under the rows of the table.
 use Prim.Native.Nat.{ℕ, suc, pred, _+_, _-_, _*_, _^_, _≤_, _<_}
 use mathlib.Core.Path.{_≡_, refl, sym, _∙_, ap, subst}
-use mathlib.Core.Logic.{_⊎_, inl, inr, _≢_, ⊎-elim}
+use mathlib.Core.Logic.{_⊎_, _≢_, ⊎-elim}
 use mathlib.Core.Bool.{Bool, true, false, cond}
 use lib.Dec.{eqb, leb, ltb}
 use native.Mathlib.Omega.{arith}
@@ -34,42 +34,12 @@ gate-same f w w′ e = grind (arith, tells)
 gate-w5 : (top i : ℕ) (a b : Bool) → InRange top (cond a (wait i) (cond b (hold 1) (hold i)))
     → (cond a shut (cond b wide shut) ≡ shut)
     ⊎ ((hold-level top (cond a (wait i) (cond b (hold 1) (hold i))) ≡ 1) × On top 1)
-gate-w5 top i true b r = inl refl
-gate-w5 top i false true r = inr (refl, r)
-gate-w5 top i false false r = inl refl
+gate-w5 top i a b r = grind (arith, tells)
 
 -- who stands for a bit holds the whole machine
 pub gate-phase : (top : ℕ) (f : Place) (w : ℕ) → InRange top (phase-of f w)
     → (gate-of f w ≡ shut) ⊎ ((hold-level top (phase-of f w) ≡ 1) × On top 1)
-gate-phase top Idle w r = inl refl
-gate-phase top (W1 i) w r = inl refl
-gate-phase top (W2 i) w r = inl refl
-gate-phase top (W3 i) w r = inl refl
-gate-phase top (W4 i t) w r = inl refl
-gate-phase top (W5 i) w r = gate-w5 top i (eqb w WAIT) (leb w 1000) r
-gate-phase top (W6 i) w r = inl refl
-gate-phase top (W7 k) w r = inr (refl, r)
-gate-phase top (W8 k) w r = inr (refl, r)
-gate-phase top (W9 k n) w r = inr (refl, r)
-gate-phase top (U1 i) w r = inr (refl, r)
-gate-phase top (U2 i n) w r = inr (refl, r)
-gate-phase top (U3 i t n) w r = inr (refl, omega arith)
-gate-phase top U4 w r = inr (refl, r)
-gate-phase top (U5 n) w r = inr (refl, r)
-gate-phase top (U6 k) w r = inr (refl, r)
-gate-phase top (U7 k n) w r = inr (refl, r)
-gate-phase top (U8 i) w r = inl refl
-gate-phase top (U9 i t) w r = inl refl
-gate-phase top (U10 i) w r = inl refl
-gate-phase top R1 w r = inl refl
-gate-phase top R2 w r = inl refl
-gate-phase top R3 w r = inl refl
-gate-phase top R4 w r = inl refl
-gate-phase top R5 w r = inl refl
-gate-phase top (R6 n) w r = inl refl
-gate-phase top R7 w r = inl refl
-gate-phase top Writer w r = inr (refl, r)
-gate-phase top Reader w r = inl refl
+gate-phase top f w r = grind (arith, tells)
 
 pub gate-at : (T : Tree) (s : Lock) (p : ℕ) (f : Place) → s .place p ≡ f
     → gate T s p ≡ gate-of f (s .statuses (T .node p (status-level f)))

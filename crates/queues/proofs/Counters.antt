@@ -3,9 +3,10 @@ use Prim.Native.Nat.{ℕ, suc, _+_, _≤_, _<_}
 use mathlib.Core.Path.{_≡_, refl, sym, _∙_, ap, subst}
 use mathlib.Core.Logic.{_≢_}
 use native.Mathlib.Omega.{arith}
+use Rattle.std.proofs.shelf.Ways.{tells}
 use Rattle.queues.specs.Machine.{On}
-use Rattle.queues.specs.Counters.{total, Load, none, inside, tries, admits, clears, Gate, shut, raising, checking}
-use Rattle.queues.specs.Counters.{reading, wide, lowering, Marks, Keeps, Tally, write-bit, Count, Counted}
+use Rattle.queues.specs.Counters.{total, Load, none, inside, tries, admits, clears, Gate, reading, Marks, Keeps}
+use Rattle.queues.specs.Counters.{Tally, write-bit, Count, Counted}
 use Rattle.queues.proofs.Cases.{split}
 use Rattle.queues.proofs.Sums.{total-same, total-swap, total-part, pick-same}
 
@@ -155,12 +156,7 @@ module _ (P C limit : ℕ) (threshold-fits : limit ≤ write-bit) (s : Tally) (v
   unmarked q k = let z : s .bit c ≡ 1 = v .marked q c in-c k in omega (arith, no-bit)
 
   keeps-marks : (g : Gate) (d : ℕ) → Keeps g d → Marks g d
-  keeps-marks shut d k = absurd k
-  keeps-marks (raising j) d k = absurd k
-  keeps-marks (checking j) d k = tt
-  keeps-marks (reading j n) d k = tt
-  keeps-marks wide d k = tt
-  keeps-marks (lowering j) d k = absurd k
+  keeps-marks g d k = grind (arith, tells)
 
   inside-one : (a b : ℕ) → inside a ≡ inside b → a ≡ b
   inside-one a b e = cc

@@ -35,14 +35,7 @@ NoWait (hold h) = Unit {0}
 NoWait (give h i t) = Unit {0}
 
 no-wait : (f : Phase) → ((i : ℕ) → f ≢ wait i) → NoWait f
-no-wait out h = tt
-no-wait (fresh i) h = tt
-no-wait (clean i) h = tt
-no-wait (ready i) h = tt
-no-wait (link i t) h = tt
-no-wait (wait i) h = h i refl
-no-wait (hold j) h = tt
-no-wait (give h₁ i t) h = tt
+no-wait f h = grind (arith, tells)
 
 -- the places that may want more than one move, or a leave
 abbrev Odd : Place → Type 0
