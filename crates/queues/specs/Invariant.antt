@@ -1,4 +1,5 @@
--- The whole lock: places, words, queues and counters together.
+-- The invariant of the whole lock: the queues hold as the phases of the places say, the counters are right as their
+-- loads and gates say, and the fields are in range.
 use Prim.Native.Nat.{ℕ, _<_}
 use mathlib.Core.Bool.{cond}
 use lib.Dec.{eqb, leb}
@@ -8,7 +9,8 @@ use Rattle.queues.specs.Table.{U10, R1, R2, R3, R4, R5, R6, R7, Writer, Reader
 use Rattle.queues.specs.Counters.{Load, none, trying, inside, leaving, carrying, clearing, Gate, shut, raising}
 use Rattle.queues.specs.Counters.{checking, reading, wide, lowering, Tally, Counted}
 
--- how far a place has the writer's bits; w is the STATUS that W5 reads
+-- how far a rank at a place has come with the write bits; w is the STATUS that W5 reads: a count there means that the
+-- section was handed over with all bits set
 abbrev pub gate-of : Place → ℕ → Gate
 gate-of Idle w = shut
 gate-of (W1 i) w = shut
@@ -40,7 +42,7 @@ gate-of R7 w = shut
 gate-of Writer w = wide
 gate-of Reader w = shut
 
--- what a place stands for in a counter; c is the rank's own counter
+-- what a rank at a place stands for in a counter; c is its own counter
 abbrev pub load-of : ℕ → Place → Load
 load-of c Idle = none
 load-of c (W1 i) = none
@@ -72,6 +74,7 @@ load-of c R7 = leaving c
 load-of c Writer = none
 load-of c Reader = inside c
 
+-- the counter that a place names is one of the C counters
 abbrev pub Within : ℕ → Place → Type 0
 Within C Idle = Unit {0}
 Within C (W1 i) = Unit {0}
@@ -103,9 +106,11 @@ Within C R7 = Unit {0}
 Within C Writer = Unit {0}
 Within C Reader = Unit {0}
 
+-- the gate of a rank
 abbrev pub gate : Tree → Lock → ℕ → Gate
 gate T s p = gate-of (s .place p) (s .statuses (T .node p (status-level (s .place p))))
 
+-- the lock as the counters see it, with the write bits
 abbrev pub tally : Plan → Lock → (ℕ → ℕ) → Tally
 tally L s bit =
     record {
@@ -116,7 +121,11 @@ tally L s bit =
       bit = bit;
     }
 
+-- the invariant: what is true at the start and after every call
 pub record Safe (P : ℕ) (L : Plan) (s : Lock) (bit : ℕ → ℕ) : Type 0 where
+  -- of the queues and the statuses
   pub fine : Fine L s
+  -- of the counters
   pub counted : Counted P (L .counters) (L .reader-threshold) (tally L s bit)
+  -- of the counters that records name
   pub within : (p : ℕ) → Within (L .counters) (s .place p)

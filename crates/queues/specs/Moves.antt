@@ -1,4 +1,5 @@
--- The way back: steps and leaves, one after the other, and a lock at rest.
+-- Lists of steps and leaves on the abstract machine, when each is accepted, a lock at rest, and what is claimed: from
+-- every lock of a job some such list leads to rest.
 use Prim.Native.Nat.{ℕ, _≤_, _<_}
 use mathlib.Core.Path.{_≡_}
 use mathlib.Core.Logic.{_⊎_}
@@ -13,7 +14,7 @@ use Rattle.queues.specs.Table.{row}
 use Rattle.places.specs.Records.{recorded}
 use Rattle.queues.specs.Jobs.{Sensible, Jobs}
 
--- the number of a place
+-- the number by which a record names its place
 abbrev pub tag : Place → ℕ
 tag f = recorded f .place
 
@@ -29,7 +30,8 @@ pub record Node (T : Tree) (t : ℕ) : Type 0 where
   pub on : On (T .own-level rank) level
   pub is : t ≡ T .node rank level
 
--- a step is accepted: not idle, not in, the fields in range, and W5 reads a status it knows
+-- a step of rank p at a place is accepted: it is neither idle nor in, its fields are in range, and W5 reads a status
+-- that it knows
 abbrev pub Accepts : Plan → Lock → ℕ → Place → Type 0
 Accepts L s p Idle = ⊥
 Accepts L s p (W1 i) = On (L .tree .own-level p) i
@@ -63,11 +65,11 @@ Accepts L s p R7 = Unit {0}
 Accepts L s p Writer = ⊥
 Accepts L s p Reader = ⊥
 
--- a leave is accepted
+-- a leave is accepted: the rank is in
 abbrev pub In : Place → Type 0
 In f = 27 ≤ tag f
 
--- where a leave goes
+-- where a leave goes: a writer to its first hand-over test, a reader to be counted out
 abbrev pub exit : Plan → ℕ → Place → Place
 exit L p Idle = Idle
 exit L p (W1 i) = W1 i
@@ -99,10 +101,12 @@ exit L p R7 = R7
 exit L p Writer = cond (leb (L .tree .own-level p) 1) U4 (U1 (L .tree .own-level p))
 exit L p Reader = R7
 
+-- the lock after a move
 abbrev pub act : Plan → Lock → Move → Lock
 act L s (Step p) = row L s p (s .place p)
 act L s (Leave p) = go s p (exit L p (s .place p))
 
+-- a move that is accepted
 abbrev pub Accepted : ℕ → Plan → Lock → Move → Type 0
 Accepted P L s (Step p) = On P p × Accepts L s p (s .place p)
 Accepted P L s (Leave p) = On P p × In (s .place p)
@@ -112,23 +116,25 @@ unfoldable pub play : Plan → Lock → List Move → Lock
 play L s [] = s
 play L s (m ∷ ms) = play L (act L s m) ms
 
--- and each is accepted
+-- each of them is accepted in its turn
 unfoldable pub Plays : ℕ → Plan → Lock → List Move → Type 0
 Plays P L s [] = Unit {0}
 Plays P L s (m ∷ ms) = Accepted P L s m × Plays P L (act L s m) ms
 
+-- every rank is idle, every queue has no tail, and of each counter as many went as came
 pub record AtRest (P : ℕ) (L : Plan) (s : Lock) : Type 0 where
   pub idles : (p : ℕ) → On P p → s .place p ≡ Idle
   pub tails : (k : ℕ) → s .tails k ≡ 0
   pub counts : (c : ℕ) → c < L .counters → s .arrives c ≡ s .departs c
 
--- what a plan says besides
+-- what a lawful plan says besides: every rank has a level, and the reader threshold is above 0 and below the write bit
 pub record Apt (P : ℕ) (L : Plan) : Type 0 where
   pub sensible : Sensible P L
   pub all : (p : ℕ) → On P p → On (L .tree .own-level p) 1
   pub some : 1 ≤ L .reader-threshold
   pub less : L .reader-threshold < write-bit
 
+-- from every lock of a job some list of accepted steps and leaves leads to rest
 abbrev pub WayBack : Type 0
 WayBack = (P : ℕ) (L : Plan) → Apt P L → (s : Lock) → Jobs P L s
     → (ms : List Move) × Plays P L s ms × AtRest P L (play L s ms)

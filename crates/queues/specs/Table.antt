@@ -1,4 +1,6 @@
--- The table of places as a function, over words given as functions.
+-- The table of places as a function on the abstract machine: each row changes one word and the place of one rank, and
+-- the rows of a queue drive its history: W3 adds a turn, U3, U9 and a U10 that succeeds let the head go.
+-- Below it, how a place is seen by the queues, and the first part of the invariant.
 use Prim.Native.Nat.{ℕ, suc, pred, _+_, _-_, _^_, _≤_}
 use mathlib.Core.Path.{_≡_}
 use mathlib.Core.Logic.{_⊎_}
@@ -10,14 +12,16 @@ pub use Rattle.places.specs.declared.place.Place.the-variants.{Idle, W1, W2, W3
 pub use Rattle.places.specs.declared.place.Place.the-variants.{U2, U3, U4, U5, U6, U7, U8, U9, U10, R1, R2, R3, R4}
 pub use Rattle.places.specs.declared.place.Place.the-variants.{R5, R6, R7, Writer, Reader}
 
+-- the STATUS of a node that waits
 abbrev pub WAIT : ℕ
 WAIT = 2 ^ 32
 
--- PARENT, or MODE at level 1
+-- the STATUS by which a holder of level i lets the next one on: take the parent too; at level 1, see to the counters
 abbrev pub told-status : ℕ → ℕ
 told-status i = cond (eqb i 1) (2 ^ 32 + 2) (2 ^ 32 + 1)
 
--- the tree, and the numbers of a plan
+-- a plan: its tree, the number of counters, how many readers a counter admits, how often a level is handed on by the
+-- ranks below one element, and the counter of each rank
 pub record Plan : Type 0 where
   pub tree : Tree
   pub counters : ℕ
@@ -25,7 +29,8 @@ pub record Plan : Type 0 where
   pub hand-over-limit : ℕ → ℕ → ℕ
   pub home : ℕ → ℕ
 
--- records and words; TAIL is by element, ARRIVE and DEPART by counter; and the ghost history
+-- the lock: the place of each rank; the words NEXT and STATUS by home, TAIL by element, ARRIVE and DEPART by counter;
+-- and the history of each queue, which no row reads
 pub record Lock : Type 0 where
   pub place : ℕ → Place
   pub nexts : ℕ → ℕ
@@ -37,9 +42,11 @@ pub record Lock : Type 0 where
   pub head-turn : ℕ → ℕ
   pub next-turn : ℕ → ℕ
 
+-- a function changed at one number
 unfoldable pub upd : {A : Type 0} → (ℕ → A) → ℕ → A → ℕ → A
 upd f a v b = cond (eqb b a) v (f b)
 
+-- rank p goes to place f
 abbrev pub go : Lock → ℕ → Place → Lock
 go s p f =
     record {
@@ -54,6 +61,7 @@ go s p f =
       next-turn = s .next-turn;
     }
 
+-- one word is written
 abbrev pub put-next : Lock → ℕ → ℕ → Lock
 put-next s h v =
     record {
@@ -82,7 +90,7 @@ put-status s h v =
       next-turn = s .next-turn;
     }
 
--- W3: the node x joins the queue k
+-- node x joins the queue of k at its next turn, and is its tail
 abbrev pub join : Lock → ℕ → ℕ → Lock
 join s k x =
     record {
@@ -97,7 +105,7 @@ join s k x =
       next-turn = upd (s .next-turn) k (suc (s .next-turn k));
     }
 
--- the head of the queue k goes
+-- the head of the queue of k goes
 abbrev pub drop : Lock → ℕ → Lock
 drop s k =
     record {
@@ -112,7 +120,7 @@ drop s k =
       next-turn = s .next-turn;
     }
 
--- and nothing is left
+-- the head goes and leaves the queue empty
 abbrev pub free : Lock → ℕ → Lock
 free s k =
     record {
@@ -156,6 +164,7 @@ put-depart s c v =
     }
 
 module _ (L : Plan) (s : Lock) (p : ℕ) where
+  -- the rank's node and element at a level, and its counter
   abbrev pub x : ℕ → ℕ
   x i = L .tree .node p i
 
@@ -165,14 +174,15 @@ module _ (L : Plan) (s : Lock) (p : ℕ) where
   abbrev pub c : ℕ
   c = L .home p
 
-  -- where a rank goes when a level is done
+  -- where a rank goes when it has let a level go: to the next deeper one, and to idle after its own
   abbrev pub done : ℕ → Place
   done i = cond (eqb i (L .tree .own-level p)) Idle (U8 (suc i))
 
+  -- the same place at the next counter, or the end after the last
   abbrev pub next : ℕ → Place → (ℕ → Place) → Place
   next n end more = cond (ltb (suc n) (L .counters)) (more (suc n)) end
 
-  -- one row, at the place given
+  -- the row of rank p at the place given; a rank that is idle or in has none
   abbrev pub row : Place → Lock
   row Idle = s
   row (W1 i) = go (put-next s (x i) 0) p (W2 i)
@@ -210,7 +220,9 @@ module _ (L : Plan) (s : Lock) (p : ℕ) where
   row Writer = s
   row Reader = s
 
--- what the queues see of a place; w is the STATUS of the node that waits, at W5
+-- the phase of a place. At W5 it is told by w, the STATUS of the rank's node: WAIT means that it waits, a count that
+-- the
+-- whole machine has been handed to it, and anything else that it holds this level
 abbrev pub phase-of : Place → ℕ → Phase
 phase-of Idle w = out
 phase-of (W1 i) w = fresh i
@@ -242,7 +254,7 @@ phase-of R7 w = out
 phase-of Writer w = hold 1
 phase-of Reader w = out
 
--- the level at which a place reads its STATUS word
+-- the level of the node whose STATUS tells the phase: that of W5; 0, for no node, elsewhere
 abbrev pub status-level : Place → ℕ
 status-level Idle = 0
 status-level (W1 i) = 0
@@ -277,6 +289,7 @@ status-level Reader = 0
 abbrev pub phase : Tree → Lock → ℕ → Phase
 phase T s p = phase-of (s .place p) (s .statuses (T .node p (status-level (s .place p))))
 
+-- the lock as the queues see it
 abbrev pub view : Tree → Lock → State
 view T s =
     record {
@@ -288,11 +301,13 @@ view T s =
       next-turn = s .next-turn;
     }
 
--- the own statuses from a level on are counts within the plan's bounds
+-- the rank's own statuses from a level down are counts
 abbrev pub Counts : Plan → (ℕ → ℕ) → ℕ → ℕ → Type 0
 Counts L statuses p from = (j : ℕ) → from ≤ j → j ≤ L .tree .own-level p → statuses (L .tree .node p j) ≤ 1000
 
--- what a rank's place says of its fields and of the STATUS words
+-- what is true of the STATUS words of a rank at its place, and of its fields: below the level where it waits, and
+-- everywhere once it holds the whole machine, they are counts; while it waits its STATUS is WAIT; at W5 it may have
+-- been told; the count that U3 is about to write is a count
 abbrev pub Sound : Plan → (ℕ → ℕ) → ℕ → Place → Type 0
 Sound L statuses p Idle = Unit {0}
 Sound L statuses p (W1 i) = Counts L statuses p (suc i)
@@ -326,6 +341,7 @@ Sound L statuses p R7 = Unit {0}
 Sound L statuses p Writer = Counts L statuses p 1
 Sound L statuses p Reader = Unit {0}
 
+-- the queues hold, and every place tells the truth
 pub record Fine (L : Plan) (s : Lock) : Type 0 where
   pub queues : Inv (L .tree) (view (L .tree) s)
   pub sound : (p : ℕ) → Sound L (s .statuses) p (s .place p)
