@@ -37,7 +37,8 @@ use Rattle.queues.proofs.Phases.{upd-same, upd-other}
 use Rattle.queues.proofs.Cases.{split}
 use Rattle.queues.proofs.QueueRows.{one-writer}
 use Rattle.queues.proofs.CounterRows.{bits, safe-row, safe-ask-write, safe-ask-read, safe-leave-write}
-use Rattle.queues.proofs.CounterRows.{safe-leave-read, safe-start, no-reader}
+use Rattle.queues.proofs.CounterRows.{safe-leave-read, no-reader}
+use Rattle.queues.proofs.Exclusion.{safe-start}
 use Rattle.law.specs.Calls.{State, state, called, with-words, laid, ran, answers}
 use Rattle.law.specs.Exclusion.{Alone}
 use Rattle.law.specs.History.{History, adds-from, written-down, history, nothing}
@@ -136,8 +137,7 @@ module _ (t : Tree) (G : Geometry t) (ws : Words) (rs : List Record) (w : Presen
 
   -- a step that is not refused
   abbrev next-bit : ℕ → ℕ → ℕ
-  next-bit p = bits P L (G .apt .sensible .tree) (G .apt .sensible .small) (G .apt .sensible .threshold-fits)
-      (G .apt .sensible .ranks) (G .apt .sensible .root) (G .apt .sensible .homes) s bit (k .safe) (s .place p)
+  next-bit p = bits P L (G .apt .sensible) s bit (k .safe) (s .place p)
 
   step-kept : (p : ℕ) → On P p → (o : Outcome) → Stepped t s p (s .place p) o (row L s p (s .place p))
       → Kept t ws rs w h (Step p) o (row L s p (s .place p)) (next-bit p)
@@ -147,7 +147,7 @@ module _ (t : Tree) (G : Geometry t) (ws : Words) (rs : List Record) (w : Presen
       (row L s p (s .place p)) (next-bit p) × Fair a)
       (sym (z .says)) (
         record {
-          safe = safe-row P L (g .tree) (g .small) (g .threshold-fits) (g .ranks) (g .root) (g .homes) s bit
+          safe = safe-row P L g s bit
               (k .safe) p (G .apt .all p on) (s .place p) refl;
           shows = z .shows;
           link = split p
@@ -308,7 +308,7 @@ module _ (t : Tree) (G : Geometry t) (ws : Words) (rs : List Record) (w : Presen
   kept-ask-write p = asks (AskWrite p) p (W1 (own-level t p)) refl
       (λ on e.
       sent (AskWrite p) p on (W1 (own-level t p)) Asked
-      (safe-ask-write P L (g .tree) (g .small) (g .threshold-fits) (g .ranks) (g .root) (g .homes) s bit (k .safe) p
+      (safe-ask-write P L g s bit (k .safe) p
       (one-of p on) e)
       (λ z. let y : _≡_ {A = ℕ} 0 1 = cc in omega arith)
       (rw (eq-eqb p p refl) (was p Idle e, refl))
@@ -323,7 +323,7 @@ module _ (t : Tree) (G : Geometry t) (ws : Words) (rs : List Record) (w : Presen
   kept-ask-read p = asks (AskRead p) p R1 refl
       (λ on e.
       sent (AskRead p) p on R1 Asked
-      (safe-ask-read P L (g .tree) (g .small) (g .threshold-fits) (g .ranks) (g .root) (g .homes) s bit (k .safe) p e)
+      (safe-ask-read P L g s bit (k .safe) p e)
       (λ z. let y : _≡_ {A = ℕ} 0 1 = cc in omega arith)
       (rw (eq-eqb p p refl) (was p Idle e, refl))
       (rw (eq-eqb p p refl))
@@ -340,7 +340,7 @@ module _ (t : Tree) (G : Geometry t) (ws : Words) (rs : List Record) (w : Presen
       (subst
       (λ f. Safe P L (go s p f) bit)
       exit
-      (safe-leave-write P L (g .tree) (g .small) (g .threshold-fits) (g .ranks) (g .root) (g .homes) s bit (k .safe) p
+      (safe-leave-write P L g s bit (k .safe) p
       e))
       (exit-off (leb 2 (own-level t p)) (own-level t p))
       (rw (eq-eqb p p refl) (out-of (leb 2 (own-level t p)) (own-level t p) (w .role p)))
@@ -356,7 +356,7 @@ module _ (t : Tree) (G : Geometry t) (ws : Words) (rs : List Record) (w : Presen
   leave-reads : (p : ℕ) → On P p → s .place p ≡ Reader
       → Kept t ws rs w h (Leave p) (with-words ws (turned rs p R7 Leaving)) (go s p R7) bit
   leave-reads p on e = sent (Leave p) p on R7 Leaving
-      (safe-leave-read P L (g .tree) (g .small) (g .threshold-fits) (g .ranks) (g .root) (g .homes) s bit (k .safe) p
+      (safe-leave-read P L g s bit (k .safe) p
       on e)
       (λ z. let y : _≡_ {A = ℕ} 0 1 = cc in omega arith)
       (rw (eq-eqb p p refl) refl)
@@ -421,8 +421,7 @@ module _ (t : Tree) (G : Geometry t) (ws : Words) (rs : List Record) (w : Presen
       (G .apt .sensible .root p q onp onq) at-p z)
       (λ (z : s .place q ≡ Reader).
       absurd
-      (no-reader P L (G .apt .sensible .tree) (G .apt .sensible .small) (G .apt .sensible .threshold-fits)
-      (G .apt .sensible .ranks) (G .apt .sensible .root) (G .apt .sensible .homes) s bit (k .safe)
+      (no-reader P L (G .apt .sensible) s bit (k .safe)
       p q onq at-p z))
       (at-inside (s .place q) (w .role q) (w .inside q) (k .link q) d)
 

@@ -18,14 +18,13 @@ use Rattle.queues.specs.Counters.{write-bit, Counted}
 use Rattle.queues.specs.Invariant.{gate-of, load-of, Within, gate, tally, Safe}
 use Rattle.queues.proofs.OneHolder.{one-holder, Successor, successor}
 use Rattle.queues.proofs.Cases.{split, split₂}
-use Rattle.queues.proofs.Sums.{pick-same, pick-other, total-part, total-same, total-zero}
+use Rattle.queues.proofs.Sums.{pick-same, pick-other, total-part, total-same}
 use Rattle.queues.proofs.Phases.{upd-same, upd-other, w5-level, told-large}
 use Rattle.queues.proofs.Counters.{Local, Shift, drained, entered, nobody-in}
 use Rattle.queues.proofs.WriteBits.{flipped, traded}
 use Rattle.queues.proofs.QueueRows.{phase-at, status-other, only-W5, fine-row, fine-ask-write, fine-ask-read}
-use Rattle.queues.proofs.QueueRows.{fine-leave-write, fine-leave-read, fine-start, one-writer}
-use Rattle.queues.specs.Jobs.{fresh-lock, Sensible, Jobs, start, stepped, asked-write, asked-read, left-write}
-use Rattle.queues.specs.Jobs.{left-read, Exclusion}
+use Rattle.queues.proofs.QueueRows.{fine-leave-write, fine-leave-read}
+use Rattle.queues.specs.Jobs.{Sensible}
 
 -- a gate reads a word at W5 alone
 pub gate-same : (f : Place) (w w′ : ℕ) → ((j : ℕ) → f ≡ W5 j → w′ ≡ w) → gate-of f w′ ≡ gate-of f w
@@ -61,11 +60,23 @@ tallied P C limit s s′ a b c d e v = subst (Counted P C limit)
     record { load = λ p. a p i; gate = λ p. b p i; arrives = λ n. c n i; departs = λ n. d n i; bit = λ n. e n i })
     v
 
-module _ (P : ℕ) (L : Plan) (G : Lawful (L .tree)) (small : (q j : ℕ) → L .hand-over-limit q j ≤ 1000)
-    (threshold-fits : L .reader-threshold ≤ write-bit) (ranks : (p : ℕ) → On (L .tree .own-level p) 1 → On P p)
-    (root : (p q : ℕ) → On (L .tree .own-level p) 1 → On (L .tree .own-level q) 1
-    → L .tree .element p 1 ≡ L .tree .element q 1)
-    (homes : (p : ℕ) → L .home p < L .counters) (s : Lock) (bit : ℕ → ℕ) (v : Safe P L s bit) where
+module _ (P : ℕ) (L : Plan) (sensible : Sensible P L) (s : Lock) (bit : ℕ → ℕ) (v : Safe P L s bit) where
+  abbrev G : Lawful (L .tree)
+  G = sensible .tree
+
+  abbrev small : (q j : ℕ) → L .hand-over-limit q j ≤ 1000
+  small = sensible .small
+
+  abbrev ranks : (p : ℕ) → On (L .tree .own-level p) 1 → On P p
+  ranks = sensible .ranks
+
+  abbrev root : (p q : ℕ) → On (L .tree .own-level p) 1 → On (L .tree .own-level q) 1
+      → L .tree .element p 1 ≡ L .tree .element q 1
+  root = sensible .root
+
+  abbrev homes : (p : ℕ) → L .home p < L .counters
+  homes = sensible .homes
+
   abbrev T : Tree
   T = L .tree
 
@@ -362,10 +373,11 @@ module _ (P : ℕ) (L : Plan) (G : Lawful (L .tree)) (small : (q j : ℕ) → L 
           bit)
       by true z = after p Reader (upd (s .arrives) (L .home p) (suc (s .arrives (L .home p)))) (s .departs)
           (sym (gate-at T s p R1 e))
-          (entered P C (L .reader-threshold) threshold-fits (tally L s bit) (v .counted) p (L .home p) (homes p) on
-          (load′ p Reader) (upd (s .arrives) (L .home p) (suc (s .arrives (L .home p)))) (record {
-            shift = shift p (L .home p) R1 Reader (upd (s .arrives) (L .home p) (suc (s .arrives (L .home p))))
-                (s .departs) e
+          (entered P C (L .reader-threshold) (sensible .threshold-fits) (tally L s bit) (v .counted) p (L .home p)
+          (homes p) on (load′ p Reader) (upd (s .arrives) (L .home p) (suc (s .arrives (L .home p))))
+          (record {
+            shift = shift p (L .home p) R1 Reader
+                (upd (s .arrives) (L .home p) (suc (s .arrives (L .home p)))) (s .departs) e
                 (λ d ne. (refl, pick-other (L .home p) 1 d (λ z. ne (sym z)), refl))
                 (λ d ne. upd-other (s .arrives) (L .home p) (suc (s .arrives (L .home p))) d ne)
                 (λ d ne. refl);
@@ -1220,60 +1232,3 @@ module _ (P : ℕ) (L : Plan) (G : Lawful (L .tree)) (small : (q j : ℕ) → L 
   pub no-reader : (p q : ℕ) → On (T .own-level q) 1 → s .place p ≡ Writer → s .place q ≡ Reader → ⊥
   no-reader p q o a b = v .counted .kept p (L .home q) (homes q) (rw (gate-at T s p Writer a) tt) q (ranks q o)
       (ap (load-of (L .home q)) b)
-
-pub safe-start : (P : ℕ) (L : Plan) → Safe P L fresh-lock (λ c. 0)
-safe-start P L =
-    record {
-      fine = fine-start L;
-      counted = record {
-        each = λ c l.
-            let z = total-zero P in
-            record { sum = omega arith; small = omega arith; bits = omega arith; stands = λ w. absurd (omega arith) };
-        marked = λ p c l w. absurd w;
-        kept = λ p c l w. absurd w;
-        seen = λ p k n e. absurd (subst (λ g. Marks g k) (sym e) tt);
-      };
-      within = λ p. tt;
-    }
-
-pub safe-job : (P : ℕ) (L : Plan) → Sensible P L → (s : Lock) → Jobs P L s → (bit : ℕ → ℕ) × Safe P L s bit
-safe-job P L g s start = ((λ c. 0), safe-start P L)
-safe-job P L g s (stepped s₀ p o j) =
-    let w = safe-job P L g s₀ j in (
-      bits P L (g .tree) (g .small) (g .threshold-fits) (g .ranks) (g .root) (g .homes) s₀ (w .0) (w .1) (s₀ .place p),
-      safe-row P L (g .tree) (g .small) (g .threshold-fits) (g .ranks) (g .root) (g .homes) s₀ (w .0) (w .1) p o
-          (s₀ .place p) refl,
-    )
-safe-job P L g s (asked-write s₀ p o e j) =
-    let w = safe-job P L g s₀ j in (
-      w .0,
-      safe-ask-write P L (g .tree) (g .small) (g .threshold-fits) (g .ranks) (g .root) (g .homes) s₀ (w .0) (w .1) p o
-          e,
-    )
-safe-job P L g s (asked-read s₀ p e j) =
-    let w = safe-job P L g s₀ j in (
-      w .0,
-      safe-ask-read P L (g .tree) (g .small) (g .threshold-fits) (g .ranks) (g .root) (g .homes) s₀ (w .0) (w .1) p e,
-    )
-safe-job P L g s (left-write s₀ p e j) =
-    let w = safe-job P L g s₀ j in (
-      w .0,
-      safe-leave-write P L (g .tree) (g .small) (g .threshold-fits) (g .ranks) (g .root) (g .homes) s₀ (w .0) (w .1) p
-          e,
-    )
-safe-job P L g s (left-read s₀ p on e j) =
-    let w = safe-job P L g s₀ j in (
-      w .0,
-      safe-leave-read P L (g .tree) (g .small) (g .threshold-fits) (g .ranks) (g .root) (g .homes) s₀ (w .0) (w .1) p
-          on e,
-    )
-
--- exclusion, after any job
-pub exclusion : Exclusion
-exclusion P L g s j p q o o′ a =
-    let w = safe-job P L g s j in (
-      (λ b. one-writer L (g .tree) (g .small) s (w .1 .fine) p q o o′ (g .root p q o o′) a b),
-      (λ b.
-          no-reader P L (g .tree) (g .small) (g .threshold-fits) (g .ranks) (g .root) (g .homes) s (w .0) (w .1) p q
-          o′ a b),
-    )

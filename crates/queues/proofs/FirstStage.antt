@@ -164,9 +164,9 @@ module _ (P : ℕ) (L : Plan) (g : Apt P L) where
   good-step s v p on =
       let e = g .sensible in
       record {
-        bit = bits P L (e .tree) (e .small) (e .threshold-fits) (e .ranks) (e .root) (e .homes) s (v .bit) (v .safe)
+        bit = bits P L e s (v .bit) (v .safe)
             (s .place p);
-        safe = safe-row P L (e .tree) (e .small) (e .threshold-fits) (e .ranks) (e .root) (e .homes) s (v .bit)
+        safe = safe-row P L e s (v .bit)
             (v .safe) p (g .all p on) (s .place p) refl;
       }
 
@@ -175,7 +175,7 @@ module _ (P : ℕ) (L : Plan) (g : Apt P L) where
       let e = g .sensible in
       record {
         bit = v .bit;
-        safe = safe-leave-read P L (e .tree) (e .small) (e .threshold-fits) (e .ranks) (e .root) (e .homes) s (v .bit)
+        safe = safe-leave-read P L e s (v .bit)
             (v .safe) p on a;
       }
 
@@ -185,7 +185,7 @@ module _ (P : ℕ) (L : Plan) (g : Apt P L) where
       let e = g .sensible in
       record {
         bit = v .bit;
-        safe = safe-leave-write P L (e .tree) (e .small) (e .threshold-fits) (e .ranks) (e .root) (e .homes) s
+        safe = safe-leave-write P L e s
             (v .bit) (v .safe) p a;
       }
 

@@ -11,6 +11,7 @@ pub mod WriteBits
 pub mod Phases
 pub mod QueueRows
 pub mod CounterRows
+pub mod Exclusion
 pub mod Progress
 pub mod Reach
 pub mod FirstStage

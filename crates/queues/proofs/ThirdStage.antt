@@ -17,7 +17,8 @@ use Rattle.queues.proofs.Sums.{total-same, total-zero}
 use Rattle.queues.proofs.Cases.{split}
 use Rattle.queues.proofs.Phases.{upd-same, upd-other}
 use Rattle.queues.proofs.QueueRows.{phase-at}
-use Rattle.queues.proofs.CounterRows.{gate-phase, safe-job}
+use Rattle.queues.proofs.CounterRows.{gate-phase}
+use Rattle.queues.proofs.Exclusion.{safe-job}
 use Rattle.queues.proofs.Reach.{Reach, here, as-list, onwards, Sum, Lower, descend}
 use Rattle.queues.proofs.FirstStage.{Good, stage-1, by-step, by-leave-read, lowers, stage-one}
 use Rattle.queues.proofs.SecondStage.{number, Quiet, stage-2, stage-two}
