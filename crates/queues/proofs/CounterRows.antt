@@ -1,4 +1,7 @@
--- The counters under the rows of the table.
+-- Each row, ask and leave keeps the counters, and with QueueRows the whole invariant. A rank whose gate is not shut
+-- holds element 1, which has one holder: so one rank at most stands for write bits. Rows of readers drain or enter;
+-- rows of that writer set, read or clear; a hand-over of the section passes all bits on; and all others leave loads
+-- and gates alone.
 use Prim.Native.Nat.{ℕ, suc, pred, _+_, _-_, _*_, _^_, _≤_, _<_}
 use mathlib.Core.Path.{_≡_, refl, sym, _∙_, ap, subst}
 use mathlib.Core.Logic.{_⊎_, _≢_, ⊎-elim}
@@ -30,6 +33,7 @@ use Rattle.queues.specs.Jobs.{Sensible}
 pub gate-same : (f : Place) (w w′ : ℕ) → ((j : ℕ) → f ≡ W5 j → w′ ≡ w) → gate-of f w′ ≡ gate-of f w
 gate-same f w w′ e = grind (arith, tells)
 
+-- a rank at W5 has no bits, or holds the whole machine
 gate-w5 : (top i : ℕ) (a b : Bool) → InRange top (cond a (wait i) (cond b (hold 1) (hold i)))
     → (cond a shut (cond b wide shut) ≡ shut)
     ⊎ ((hold-level top (cond a (wait i) (cond b (hold 1) (hold i))) ≡ 1) × On top 1)
@@ -40,14 +44,17 @@ pub gate-phase : (top : ℕ) (f : Place) (w : ℕ) → InRange top (phase-of f w
     → (gate-of f w ≡ shut) ⊎ ((hold-level top (phase-of f w) ≡ 1) × On top 1)
 gate-phase top f w r = grind (arith, tells)
 
+-- the gate of a rank whose place is known
 pub gate-at : (T : Tree) (s : Lock) (p : ℕ) (f : Place) → s .place p ≡ f
     → gate T s p ≡ gate-of f (s .statuses (T .node p (status-level f)))
 gate-at T s p f e = ap (λ g. gate-of g (s .statuses (T .node p (status-level g)))) e
 
+-- the gate of the rank that moved
 pub gate-now : (T : Tree) (s : Lock) (p : ℕ) (f : Place)
     → gate T (go s p f) p ≡ gate-of f (s .statuses (T .node p (status-level f)))
 gate-now T s p f = gate-at T (go s p f) p f (upd-same (s .place) p f)
 
+-- no other gate changes by its going
 pub gate-other : (T : Tree) (s : Lock) (p : ℕ) (f : Place) (q : ℕ) → q ≢ p → gate T (go s p f) q ≡ gate T s q
 gate-other T s p f q a = ap (λ g. gate-of g (s .statuses (T .node q (status-level g)))) (upd-other (s .place) p f q a)
 
@@ -95,6 +102,7 @@ module _ (P : ℕ) (L : Plan) (sensible : Sensible P L) (s : Lock) (bit : ℕ �
       absurd (a (one-holder T G (view T s) inv q p 1 (z .1) o (omega arith) l (root q p (z .1) o))))
       (gate-phase (T .own-level q) (s .place q) (s .statuses (T .node q (status-level (s .place q)))) (inv .range q))
 
+  -- nor by a STATUS written at a node that is not its own
   gate-status : (o i u : ℕ) → On (T .own-level o) i → hold-level (T .own-level o) (phase T s o) ≤ suc i → (q : ℕ)
       → q ≢ o → gate T (put-status s (T .node o i) u) q ≡ gate T s q
   gate-status o i u on l q a = gate-same (s .place q) (s .statuses (T .node q (status-level (s .place q))))
@@ -151,15 +159,19 @@ module _ (P : ℕ) (L : Plan) (sensible : Sensible P L) (s : Lock) (bit : ℕ �
       (λ c. refl)
       (v .counted)
 
+  -- the loads before
   abbrev load : ℕ → Load
   load p = load-of (L .home p) (s .place p)
 
+  -- and after rank p goes to g
   abbrev load′ : ℕ → Place → ℕ → Load
   load′ p g q = load-of (L .home q) (upd (s .place) p g q)
 
+  -- no other load changes
   load-other : (p : ℕ) (g : Place) (q : ℕ) → q ≢ p → load′ p g q ≡ load q
   load-other p g q a = ap (load-of (L .home q)) (upd-other (s .place) p g q a)
 
+  -- the load of the rank that moved
   load-now : (p : ℕ) (g : Place) → load′ p g p ≡ load-of (L .home p) g
   load-now p g = ap (load-of (L .home p)) (upd-same (s .place) p g)
 
@@ -231,6 +243,7 @@ module _ (P : ℕ) (L : Plan) (sensible : Sensible P L) (s : Lock) (bit : ℕ �
       (λ c. refl)
       w
 
+  -- a row of a counter by which nobody comes in
   drain : (p c : ℕ) (f g : Place) (arrives departs : ℕ → ℕ) → On P p → s .place p ≡ f
       → gate-of g (s .statuses (T .node p (status-level g))) ≡ gate T s p
       → Local (load-of (L .home p) f) (load-of (L .home p) g) c → ((d : ℕ) → d ≢ c → arrives d ≡ s .arrives d)
@@ -266,9 +279,11 @@ module _ (P : ℕ) (L : Plan) (sensible : Sensible P L) (s : Lock) (bit : ℕ �
         outside = λ d z. ou d (sym (load-now p g) ∙ z);
       }))
 
+  -- who has no load is not inside
   none-inside : (d : ℕ) → none ≢ inside d
   none-inside d e = let z : _≡_ {A = ℕ} 0 1 = cc in omega arith
 
+  -- R2 takes itself out again
   count-R2 : (p : ℕ) → On P p → s .place p ≡ R2 → Counted P C (L .reader-threshold) (tally L (row L s p R2) bit)
   count-R2 p on e =
       let c = L .home p in
@@ -284,6 +299,7 @@ module _ (P : ℕ) (L : Plan) (sensible : Sensible P L) (s : Lock) (bit : ℕ �
       (omega arith)
       none-inside
 
+  -- R5 takes DEPART
   count-R5 : (p : ℕ) → On P p → s .place p ≡ R5 → Counted P C (L .reader-threshold) (tally L (row L s p R5) bit)
   count-R5 p on e =
       let c = L .home p in
@@ -299,6 +315,7 @@ module _ (P : ℕ) (L : Plan) (sensible : Sensible P L) (s : Lock) (bit : ℕ �
       (omega arith)
       (λ d e. let z : _≡_ {A = ℕ} 0 1 = cc in omega arith)
 
+  -- R6 takes the same out of ARRIVE
   count-R6 : (p n : ℕ) → On P p → s .place p ≡ R6 n
       → Counted P C (L .reader-threshold) (tally L (row L s p (R6 n)) bit)
   count-R6 p n on e =
@@ -315,6 +332,7 @@ module _ (P : ℕ) (L : Plan) (sensible : Sensible P L) (s : Lock) (bit : ℕ �
       (omega arith)
       none-inside
 
+  -- R7 counts itself among the departed
   count-R7 : (p : ℕ) → On P p → s .place p ≡ R7 → Counted P C (L .reader-threshold) (tally L (row L s p R7) bit)
   count-R7 p on e =
       let c = L .home p in
@@ -329,6 +347,7 @@ module _ (P : ℕ) (L : Plan) (sensible : Sensible P L) (s : Lock) (bit : ℕ �
       (omega arith)
       none-inside
 
+  -- a reader leaves
   count-leave : (p : ℕ) → On P p → s .place p ≡ Reader → Counted P C (L .reader-threshold) (tally L (go s p R7) bit)
   count-leave p on e =
       let c = L .home p in
@@ -341,6 +360,7 @@ module _ (P : ℕ) (L : Plan) (sensible : Sensible P L) (s : Lock) (bit : ℕ �
       (omega arith)
       (λ d e. let z : _≡_ {A = ℕ} 0 1 = cc in omega arith)
 
+  -- R1 enters, or counts itself among the refused
   count-R1 : (p : ℕ) → On P p → s .place p ≡ R1 → Counted P C (L .reader-threshold) (tally L (row L s p R1) bit)
   count-R1 p on e = by (ltb (s .arrives c) (L .reader-threshold)) refl
     where
@@ -396,6 +416,7 @@ module _ (P : ℕ) (L : Plan) (sensible : Sensible P L) (s : Lock) (bit : ℕ �
           (omega arith)
           (λ d e. let z : _≡_ {A = ℕ} 0 1 = cc in omega arith)
 
+  -- U6 takes DEPART
   count-U6 : (p n : ℕ) → On P p → s .place p ≡ U6 n
       → Counted P C (L .reader-threshold) (tally L (row L s p (U6 n)) bit)
   count-U6 p n on e =
@@ -479,6 +500,7 @@ module _ (P : ℕ) (L : Plan) (sensible : Sensible P L) (s : Lock) (bit : ℕ �
       (w .0)
       (w .1)
 
+  -- nobody comes in by a row of the writer
   not-inside : (p : ℕ) (g : Place) (c : ℕ) → load-of (L .home p) g ≡ none → ((q : ℕ) → On P q → load q ≢ inside c)
       → (q : ℕ) → On P q → load′ p g q ≢ inside c
   not-inside p g c z h = split p
@@ -525,10 +547,12 @@ module _ (P : ℕ) (L : Plan) (sensible : Sensible P L) (s : Lock) (bit : ℕ �
       (λ (z : C ≤ 0). absurd (omega (arith, homes p)))
       (cases-lt 0 C)
 
+  -- the writer holds the whole machine
   level-1 : (p : ℕ) (f : Place) → s .place p ≡ f → ((w : ℕ) → phase-of f w ≡ hold 1)
       → hold-level (T .own-level p) (phase T s p) ≤ 1
   level-1 p f e h = rw (phase-at T s p f e, h (s .statuses (T .node p (status-level f)))) (omega arith)
 
+  -- W8 reads ARRIVE: it covers all inside, since the bit stands
   count-W8 : (p k : ℕ) → On P p → On (T .own-level p) 1 → k < C → s .place p ≡ W8 k
       → Counted P C (L .reader-threshold) (tally L (row L s p (W8 k)) bit)
   count-W8 p k on o l e =
@@ -547,6 +571,7 @@ module _ (P : ℕ) (L : Plan) (sensible : Sensible P L) (s : Lock) (bit : ℕ �
       a
       (omega (arith, v .counted .each k l .sum)))
 
+  -- W9 goes on where nobody is in, and reads again elsewhere
   count-W9 : (p k n : ℕ) → On P p → On (T .own-level p) 1 → k < C → s .place p ≡ W9 k n
       → Counted P C (L .reader-threshold) (tally L (row L s p (W9 k n)) bit)
   count-W9 p k n on o l e = by (eqb n (2 ^ 62 + s .departs k)) (ltb (suc k) C) refl refl
@@ -586,6 +611,7 @@ module _ (P : ℕ) (L : Plan) (sensible : Sensible P L) (s : Lock) (bit : ℕ �
           (λ c m w. old c m w)
           (λ j i w. absurd (let z : _≡_ {A = ℕ} 0 1 = cc in omega arith))
 
+  -- W7 sets a write bit
   count-W7 : (p k : ℕ) → On P p → On (T .own-level p) 1 → k < C → s .place p ≡ W7 k
       → Counted P C (L .reader-threshold) (tally L (row L s p (W7 k)) (upd bit k 1))
   count-W7 p k on o l e = by (ltb (suc k) C) refl
@@ -593,6 +619,7 @@ module _ (P : ℕ) (L : Plan) (sensible : Sensible P L) (s : Lock) (bit : ℕ �
       g : gate T s p ≡ raising k
       g = gate-at T s p (W7 k) e
 
+      -- it holds all below
       lv : hold-level (T .own-level p) (phase T s p) ≤ 1
       lv = level-1 p (W7 k) e (λ w. refl)
 
@@ -677,6 +704,7 @@ module _ (P : ℕ) (L : Plan) (sensible : Sensible P L) (s : Lock) (bit : ℕ �
           (λ c w. omega arith)
           (λ j n e. let z : _≡_ {A = ℕ} 0 1 = cc in omega arith)
 
+  -- U7 clears a write bit, and takes what was departed out of ARRIVE
   count-U7 : (p k n : ℕ) → On P p → On (T .own-level p) 1 → k < C → s .place p ≡ U7 k n
       → Counted P C (L .reader-threshold) (tally L (row L s p (U7 k n)) (upd bit k 0))
   count-U7 p k n on o l e = by (ltb (suc k) C) refl
@@ -779,11 +807,13 @@ module _ (P : ℕ) (L : Plan) (sensible : Sensible P L) (s : Lock) (bit : ℕ �
       ≡ gate-of f (s .statuses (T .node p (status-level f))))
       × (load-of (L .home p) g ≡ load-of (L .home p) f)
 
+  -- such a row
   plain : (p : ℕ) (f g : Place) → s .place p ≡ f → Plain p f g
       → Counted P C (L .reader-threshold) (tally L (go s p g) bit)
   plain p f g e h =
       still (s .statuses) p g (h .0 ∙ sym (gate-at T s p f e)) (h .1 ∙ sym (ap (load-of (L .home p)) e)) (λ q a. refl)
 
+  -- and one that also writes the own STATUS
   owned : (p i u : ℕ) (f g : Place) → s .place p ≡ f → On (T .own-level p) i
       → hold-level (T .own-level p) (phase T s p) ≤ suc i
       → gate-of g (upd (s .statuses) (T .node p i) u (T .node p (status-level g)))
@@ -793,6 +823,7 @@ module _ (P : ℕ) (L : Plan) (sensible : Sensible P L) (s : Lock) (bit : ℕ �
       (y ∙ sym (ap (load-of (L .home p)) e))
       (λ q a. gate-status p i u on lv q a)
 
+  -- W6 at level 1 begins with the bits
   count-W6 : (p i : ℕ) → On P p → s .place p ≡ W6 i
       → Counted P C (L .reader-threshold) (tally L (row L s p (W6 i)) bit)
   count-W6 p i onp e = by (leb 2 i) refl
@@ -830,6 +861,7 @@ module _ (P : ℕ) (L : Plan) (sensible : Sensible P L) (s : Lock) (bit : ℕ �
           (λ c m w. absurd w)
           (λ j n e. absurd (let z : _≡_ {A = ℕ} 0 1 = cc in omega arith)))
 
+  -- W5 enters with the bits that were handed over
   count-W5 : (p i : ℕ) → s .place p ≡ W5 i → Counted P C (L .reader-threshold) (tally L (row L s p (W5 i)) bit)
   count-W5 p i e = by (eqb w WAIT) (leb w 1000) (eqb w (told-status i)) refl refl
     where
@@ -849,19 +881,23 @@ module _ (P : ℕ) (L : Plan) (sensible : Sensible P L) (s : Lock) (bit : ℕ �
     n : Successor T (view T s) p i t
     n = successor T G (view T s) inv p h i t was
 
+    -- the STATUS of the successor is written
     abbrev s₁ : Lock
     s₁ = put-status s (T .node (n .rank) i) u
 
+    -- the successor is at W5
     at-r : s .place (n .rank) ≡ W5 i
     at-r = only-W5 (s .place (n .rank)) (s .statuses (T .node (n .rank) (status-level (s .place (n .rank))))) i
         (n .waits)
 
+    -- it is another rank
     r≢p : n .rank ≢ p
     r≢p z = subst (λ f. Waits f i) (sym (n .waits) ∙ (ap (phase T s) z ∙ was)) refl
 
     lv : hold-level (T .own-level (n .rank)) (phase T s (n .rank)) ≤ suc i
     lv = rw (n .waits) (omega arith)
 
+    -- the gate of the giver after it
     gate-p : gate T (go s₁ p (done L s p i)) p ≡ shut
     gate-p = gate-now T s₁ p (done L s p i)
         ∙ cond-both (eqb i (T .own-level p)) Idle (U8 (suc i))
@@ -870,13 +906,16 @@ module _ (P : ℕ) (L : Plan) (sensible : Sensible P L) (s : Lock) (bit : ℕ �
         (λ _ w. refl)
         (s₁ .statuses (T .node p (status-level (done L s p i))))
 
+    -- the gate of the taker
     gate-r : gate T (go s₁ p (done L s p i)) (n .rank) ≡ gate-of (W5 i) u
     gate-r = gate-other T s₁ p (done L s p i) (n .rank) r≢p
         ∙ (gate-at T s₁ (n .rank) (W5 i) at-r ∙ ap (gate-of (W5 i)) (upd-same (s .statuses) (T .node (n .rank) i) u))
 
+    -- all other gates
     gate-o : (q : ℕ) → q ≢ p → q ≢ n .rank → gate T (go s₁ p (done L s p i)) q ≡ gate T s q
     gate-o q a b = gate-other T s₁ p (done L s p i) q a ∙ gate-status (n .rank) i u (n .on) lv q b
 
+    -- no load changes
     loads : load-of (L .home p) f ≡ none → (q : ℕ) → load q ≡ load′ p (done L s p i) q
     loads z = split p
         (λ q. load q ≡ load′ p (done L s p i) q)
@@ -888,6 +927,7 @@ module _ (P : ℕ) (L : Plan) (sensible : Sensible P L) (s : Lock) (bit : ℕ �
         (λ _. refl) ∙ sym (load-now p (done L s p i)))))
         (λ q a. sym (load-other p (done L s p i) q a))
 
+  -- U3: the bits go with the section
   count-U3 : (p i t n : ℕ) → On (T .own-level p) 1 → s .place p ≡ U3 i t n
       → Counted P C (L .reader-threshold) (tally L (row L s p (U3 i t n)) bit)
   count-U3 p i t u o e =
@@ -922,6 +962,7 @@ module _ (P : ℕ) (L : Plan) (sensible : Sensible P L) (s : Lock) (bit : ℕ �
         gates = gate-o p 1 i t u (U3 i t u) e was;
       })))
 
+  -- U9: nobody stands for a bit
   count-U9 : (p i t : ℕ) → s .place p ≡ U9 i t → Counted P C (L .reader-threshold) (tally L (row L s p (U9 i t)) bit)
   count-U9 p i t e =
       let was : phase T s p ≡ give i i t = phase-at T s p (U9 i t) e in
@@ -959,6 +1000,7 @@ module _ (P : ℕ) (L : Plan) (sensible : Sensible P L) (s : Lock) (bit : ℕ �
   two : (p : ℕ) (f : Place) (b : Bool) (g h : Place) → Plain p f g → Plain p f h → Plain p f (cond b g h)
   two p f b g h x y = cond-both b g h (Plain p f) (λ _. x) (λ _. y)
 
+  -- U5 hands over, or begins to clear the bits
   count-U5 : (p n : ℕ) → On P p → On (T .own-level p) 1 → s .place p ≡ U5 n
       → Counted P C (L .reader-threshold) (tally L (row L s p (U5 n)) bit)
   count-U5 p n onp o e = by (eqb (s .nexts (T .node p 1)) 0) (ltb n (L .hand-over-limit p 1))
@@ -980,6 +1022,7 @@ module _ (P : ℕ) (L : Plan) (sensible : Sensible P L) (s : Lock) (bit : ℕ �
       by false true = plain p (U5 n) (U3 1 (s .nexts (T .node p 1)) (suc n)) e (refl, refl)
       by false false = lower
 
+  -- U10 touches no counter
   count-U10 : (p i : ℕ) → s .place p ≡ U10 i → Counted P C (L .reader-threshold) (tally L (row L s p (U10 i)) bit)
   count-U10 p i e = by (eqb (s .tails (T .element p i)) (T .node p i))
     where
@@ -990,7 +1033,7 @@ module _ (P : ℕ) (L : Plan) (sensible : Sensible P L) (s : Lock) (bit : ℕ �
           (two p (U10 i) (eqb i (T .own-level p)) Idle (U8 (suc i)) (refl, refl) (refl, refl))
       by false = plain p (U10 i) (U8 i) e (refl, refl)
 
-  -- the bits after a row
+  -- the write bits after a row: W7 sets one, U7 clears one
   abbrev pub bits : Place → ℕ → ℕ
   bits Idle = bit
   bits (W1 i) = bit
@@ -1022,6 +1065,7 @@ module _ (P : ℕ) (L : Plan) (sensible : Sensible P L) (s : Lock) (bit : ℕ �
   bits Writer = bit
   bits Reader = bit
 
+  -- every row keeps the counters
   pub count-row : (p : ℕ) → On P p → On (T .own-level p) 1 → (f : Place) → s .place p ≡ f
       → Counted P C (L .reader-threshold) (tally L (row L s p f) (bits f))
   count-row p on o Idle e = v .counted
@@ -1091,6 +1135,7 @@ module _ (P : ℕ) (L : Plan) (sensible : Sensible P L) (s : Lock) (bit : ℕ �
       (rw (upd-same (s .place) p g) h)
       (λ q a. rw (upd-other (s .place) p g q a) (v .within q))
 
+  -- the counter that a record names is in range: after W5
   within-W5 : (p i : ℕ) (a b c : Bool) → (q : ℕ)
       → Within C ((cond a s (cond b (go s p Writer) (cond c (go s p (W6 i)) s))) .place q)
   within-W5 p i true b c = v .within
@@ -1098,12 +1143,14 @@ module _ (P : ℕ) (L : Plan) (sensible : Sensible P L) (s : Lock) (bit : ℕ �
   within-W5 p i false false true = within-row p (W6 i) tt
   within-W5 p i false false false = v .within
 
+  -- after U10
   within-U10 : (p i : ℕ) (b : Bool) → (q : ℕ)
       → Within C ((cond b (go (free s (T .element p i)) p (done L s p i)) (go s p (U8 i))) .place q)
   within-U10 p i true = within-row p (done L s p i)
       (cond-both (eqb i (T .own-level p)) (Idle) (U8 (suc i)) (Within C) (λ _. tt) (λ _. tt))
   within-U10 p i false = within-row p (U8 i) tt
 
+  -- after every row
   within-all : (p : ℕ) (f : Place) → s .place p ≡ f → (q : ℕ) → Within C ((row L s p f) .place q)
   within-all p Idle e = v .within
   within-all p (W1 i) e = within-row p (W2 i) (tt)
@@ -1183,7 +1230,7 @@ module _ (P : ℕ) (L : Plan) (sensible : Sensible P L) (s : Lock) (bit : ℕ �
   within-all p Writer e = v .within
   within-all p Reader e = v .within
 
-  -- every row keeps the lock safe
+  -- every row keeps the invariant
   pub safe-row : (p : ℕ) → On (T .own-level p) 1 → (f : Place) → s .place p ≡ f → Safe P L (row L s p f) (bits f)
   safe-row p o f e =
       record {
@@ -1192,6 +1239,7 @@ module _ (P : ℕ) (L : Plan) (sensible : Sensible P L) (s : Lock) (bit : ℕ �
         within = within-all p f e;
       }
 
+  -- and so does an ask to write
   pub safe-ask-write : (p : ℕ) → On (T .own-level p) 1 → s .place p ≡ Idle
       → Safe P L (go s p (W1 (T .own-level p))) bit
   safe-ask-write p o e =
@@ -1201,6 +1249,7 @@ module _ (P : ℕ) (L : Plan) (sensible : Sensible P L) (s : Lock) (bit : ℕ �
         within = within-row p (W1 (T .own-level p)) tt;
       }
 
+  -- an ask to read
   pub safe-ask-read : (p : ℕ) → s .place p ≡ Idle → Safe P L (go s p R1) bit
   safe-ask-read p e =
       record {
@@ -1209,6 +1258,7 @@ module _ (P : ℕ) (L : Plan) (sensible : Sensible P L) (s : Lock) (bit : ℕ �
         within = within-row p R1 tt;
       }
 
+  -- a leave of a writer
   pub safe-leave-write : (p : ℕ) → s .place p ≡ Writer
       → Safe P L (go s p (cond (leb (T .own-level p) 1) U4 (U1 (T .own-level p)))) bit
   safe-leave-write p e =
@@ -1220,6 +1270,7 @@ module _ (P : ℕ) (L : Plan) (sensible : Sensible P L) (s : Lock) (bit : ℕ �
             (cond-both (leb (T .own-level p) 1) U4 (U1 (T .own-level p)) (Within C) (λ _. tt) (λ _. tt));
       }
 
+  -- and a leave of a reader
   pub safe-leave-read : (p : ℕ) → On P p → s .place p ≡ Reader → Safe P L (go s p R7) bit
   safe-leave-read p on e =
       record {

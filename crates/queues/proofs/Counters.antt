@@ -1,4 +1,9 @@
--- The counters' rows.
+-- The rows that touch a counter's words keep the account. Where nobody comes in, what is counted moves between
+-- ARRIVE, DEPART and a load, or falls: so what a writer has read at W9 still covers those inside. A reader comes in
+-- only while ARRIVE is below the reader threshold; then no write bit stands, so no writer keeps that counter empty,
+-- and none has read it.
+-- And the reason for the drain test: where the word read before is the write bit and DEPART, nobody of the counter is
+-- in.
 use Prim.Native.Nat.{ℕ, suc, _+_, _≤_, _<_}
 use mathlib.Core.Path.{_≡_, refl, sym, _∙_, ap, subst}
 use mathlib.Core.Logic.{_≢_}
@@ -10,7 +15,7 @@ use Rattle.queues.specs.Counters.{Tally, write-bit, Count, Counted}
 use Rattle.queues.proofs.Cases.{split}
 use Rattle.queues.proofs.Sums.{total-same, total-swap, total-part, pick-same}
 
--- one weight of the load l is that of the load m at every counter but c
+-- the weights of two loads agree at every counter but c
 abbrev pub Local : Load → Load → ℕ → Type 0
 Local l m c = (d : ℕ) → d ≢ c → (tries m d ≡ tries l d) × (admits m d ≡ admits l d) × (clears m d ≡ clears l d)
 
@@ -37,6 +42,7 @@ module _ (P : ℕ) (s : Tally) (p c : ℕ) (on : On P p) (load : ℕ → Load) (
         → total P (λ q. w (load q) c) + w (s .load p) c ≡ total P (λ q. w (s .load q) c) + w (load p) c
     moves w = total-swap P (λ q. w (s .load q) c) (λ q. w (load q) c) p on (λ q a. ap (λ l. w l c) (m .others q a))
 
+-- new loads and words, the same gates and bits
 abbrev pub shifted : Tally → (ℕ → Load) → (ℕ → ℕ) → (ℕ → ℕ) → Tally
 shifted s load arrives departs =
     record { load = load; gate = s .gate; arrives = arrives; departs = departs; bit = s .bit }
@@ -56,6 +62,7 @@ module _ (P C limit : ℕ) (s : Tally) (v : Counted P C limit s) (p c : ℕ) (on
   abbrev s′ : Tally
   s′ = shifted s load arrives departs
 
+  -- the account of the counter
   here : c < C → Count P limit s′ c
   here l =
       let o = v .each c l in
@@ -69,6 +76,7 @@ module _ (P C limit : ℕ) (s : Tally) (v : Counted P C limit s) (p c : ℕ) (on
         stands = o .stands;
       }
 
+  -- the others are as they were
   there : (d : ℕ) → d ≢ c → d < C → Count P limit s′ d
   there d ne l =
       let o = v .each d l in
@@ -80,6 +88,7 @@ module _ (P C limit : ℕ) (s : Tally) (v : Counted P C limit s) (p c : ℕ) (on
       let z = m .shift .depart-other d ne in
       record { sum = omega (arith, o .sum); small = omega (arith, o .small); bits = o .bits; stands = o .stands }
 
+  -- what was read at W9 still covers all inside
   seen′ : (k : ℕ) → (q n : ℕ) → s .gate q ≡ reading k n → write-bit + departs k + total P (λ p. admits (load p) k) ≤ n
   seen′ = split c
       (λ k. (q n : ℕ) → s .gate q ≡ reading k n → write-bit + departs k + total P (λ p. admits (load p) k) ≤ n)
@@ -93,6 +102,7 @@ module _ (P C limit : ℕ) (s : Tally) (v : Counted P C limit s) (p c : ℕ) (on
         away P s p c on load arrives departs (m .shift) admits k (m .shift .local k ne .1),
       ))
 
+  -- so the invariant is kept
   pub drained : Counted P C limit s′
   drained =
       record {
@@ -119,15 +129,19 @@ module _ (P C limit : ℕ) (threshold-fits : limit ≤ write-bit) (s : Tally) (v
   abbrev e′ : Tally
   e′ = shifted s load arrives (s .departs)
 
+  -- where ARRIVE is below the threshold the write bit is down
   no-bit : s .bit c ≡ 0
   no-bit = let o = v .each c in-c in omega (arith, o .sum, o .bits, m .room)
 
+  -- the weights before
   t-old : (tries (s .load p) c ≡ 0) × (admits (s .load p) c ≡ 0) × (clears (s .load p) c ≡ 0)
   t-old = rw (m .before) (refl, refl, refl)
 
+  -- and after
   t-new : (tries (load p) c ≡ 0) × (admits (load p) c ≡ 1) × (clears (load p) c ≡ 0)
   t-new = rw (m .after) (refl, pick-same c 1, refl)
 
+  -- the account of the counter, with one more inside
   enter-here : Count P limit e′ c
   enter-here =
       let o = v .each c in-c in
@@ -141,6 +155,7 @@ module _ (P C limit : ℕ) (threshold-fits : limit ≤ write-bit) (s : Tally) (v
         stands = o .stands;
       }
 
+  -- the others are as they were
   enter-there : (d : ℕ) → d ≢ c → d < C → Count P limit e′ d
   enter-there d ne l =
       let o = v .each d l in
@@ -155,12 +170,15 @@ module _ (P C limit : ℕ) (threshold-fits : limit ≤ write-bit) (s : Tally) (v
   unmarked : (q : ℕ) → Marks (s .gate q) c → ⊥
   unmarked q k = let z : s .bit c ≡ 1 = v .marked q c in-c k in omega (arith, no-bit)
 
+  -- who keeps a counter empty stands for its bit
   keeps-marks : (g : Gate) (d : ℕ) → Keeps g d → Marks g d
   keeps-marks g d k = grind (arith, tells)
 
+  -- a rank is inside at one counter
   inside-one : (a b : ℕ) → inside a ≡ inside b → a ≡ b
   inside-one a b e = cc
 
+  -- so the invariant is kept
   pub entered : Counted P C limit e′
   entered =
       record {
@@ -188,7 +206,7 @@ module _ (P C limit : ℕ) (threshold-fits : limit ≤ write-bit) (s : Tally) (v
             e;
       }
 
--- row W9: where the word read before is F and the departures, nobody of the counter is in
+-- row W9: where the word read before is the write bit and DEPART, nobody of the counter is in
 pub nobody-in : (P C limit : ℕ) (s : Tally) → Counted P C limit s → (p k n : ℕ) → s .gate p ≡ reading k n
     → n ≡ write-bit + s .departs k → (q : ℕ) → On P q → s .load q ≢ inside k
 nobody-in P C limit s v p k n e z q on w =

@@ -14,6 +14,7 @@ use Rattle.queues.specs.Jobs.{left-read, Exclusion}
 use Rattle.queues.proofs.CounterRows.{bits, safe-row, safe-ask-write, safe-ask-read, safe-leave-write}
 use Rattle.queues.proofs.CounterRows.{safe-leave-read, no-reader}
 
+-- at the start
 pub safe-start : (P : ℕ) (L : Plan) → Safe P L fresh-lock (λ c. 0)
 safe-start P L =
     record {
@@ -29,6 +30,7 @@ safe-start P L =
       within = λ p. tt;
     }
 
+-- after every job
 pub safe-job : (P : ℕ) (L : Plan) → Sensible P L → (s : Lock) → Jobs P L s → (bit : ℕ → ℕ) × Safe P L s bit
 safe-job P L g s start = ((λ c. 0), safe-start P L)
 safe-job P L g s (stepped s₀ p o j) =
@@ -61,7 +63,7 @@ safe-job P L g s (left-read s₀ p on e j) =
           on e,
     )
 
--- exclusion, after any job
+-- so exclusion holds after every job
 pub exclusion : Exclusion
 exclusion P L g s j p q o o′ a =
     let w = safe-job P L g s j in (

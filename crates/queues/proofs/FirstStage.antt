@@ -1,4 +1,6 @@
--- Moves keep the lock safe; and the first stage of the way back: readers to idle or R3.
+-- Steps and leaves keep the invariant, and are accepted where it holds. With that the first stage of the way back:
+-- readers go to idle or R3. A reader's number is the most moves that it can make before that: three at R1 and R4, two
+-- at R5 and inside, one at R2, R6 and R7. Every move lowers it and leaves the others' alone.
 use Prim.Native.Nat.{ℕ, _≤_, _<_}
 use mathlib.Core.Path.{_≡_, refl, sym, _∙_, ap, subst}
 use mathlib.Core.Logic.{_⊎_, inl, inr, _≢_}
@@ -20,6 +22,7 @@ use Rattle.queues.proofs.CounterRows.{bits, safe-row, safe-leave-write, safe-l
 use Rattle.queues.proofs.Progress.{sum-falls}
 use Rattle.queues.proofs.Reach.{Reach, here, move, Sum, Lower, descend}
 
+-- the invariant holds, with some write bits
 pub record Good (P : ℕ) (L : Plan) (s : Lock) : Type 0 where
   pub bit : ℕ → ℕ
   pub safe : Safe P L s bit
@@ -28,7 +31,7 @@ pub record Good (P : ℕ) (L : Plan) (s : Lock) : Type 0 where
 abbrev pub Busy : Place → Type 0
 Busy f = (1 ≤ tag f) × (tag f ≤ 26)
 
--- the field t, where there is one
+-- the field t of a place, where it has one, is a node
 abbrev pub Aims : Tree → Place → Type 0
 Aims T Idle = Unit {0}
 Aims T (W1 i) = Unit {0}
@@ -65,12 +68,13 @@ pub row-other : (L : Plan) (s : Lock) (p : ℕ) (f : Place) (q : ℕ) → q ≢ 
 unfolding upd
 row-other L s p f q a = grind (arith, tells)
 
+-- a step is accepted where the invariant holds
 accepts : (L : Plan) (s : Lock) (p : ℕ) (f : Place) → ((q j : ℕ) → L .hand-over-limit q j ≤ 1000)
     → InRange (L .tree .own-level p) (phase-of f (s .statuses (L .tree .node p (status-level f))))
     → Sound L (s .statuses) p f → Within (L .counters) f → Aims (L .tree) f → Busy f → Accepts L s p f
 accepts L s p f c r so w a b = grind (arith, tells)
 
--- what stands in t is the node of a rank
+-- what a rank is about to link itself to is the node of a rank
 link-aims : (T : Tree) → Lawful T → (s : State) → Inv T s → (p i t : ℕ) → s .phases p ≡ link i t → Node T t
 link-aims T G s v p i t e =
     let l : Linking T s p i t = asked T s v p (link i t) e in
@@ -78,11 +82,13 @@ link-aims T G s v p i t e =
     occupant T G s v (T .element p i) (l .spot .turn) (l .spot .low) (omega (arith, l .spot .high)) in
     record { rank = o .rank; level = o .level; on = o .on; is = l .target ∙ o .is }
 
+-- and so is what a rank hands over to
 give-aims : (T : Tree) → Lawful T → (s : State) → Inv T s → (p h i t : ℕ) → s .phases p ≡ give h i t → Node T t
 give-aims T G s v p h i t e =
     let n : Successor T s p i t = successor T G s v p h i t e in
     record { rank = n .rank; level = i; on = n .on; is = n .target }
 
+-- the same, said of the phase
 abbrev Targets : Tree → Phase → Type 0
 Targets T out = Unit {0}
 Targets T (fresh i) = Unit {0}
@@ -93,6 +99,7 @@ Targets T (wait i) = Unit {0}
 Targets T (hold h) = Unit {0}
 Targets T (give h i t) = Node T t
 
+-- a rank's target is a node
 targets : (T : Tree) → Lawful T → (s : State) → Inv T s → (p : ℕ) (f : Phase) → s .phases p ≡ f → Targets T f
 targets T G s v p out e = tt
 targets T G s v p (fresh i) e = tt
@@ -103,10 +110,11 @@ targets T G s v p (wait i) e = tt
 targets T G s v p (hold h) e = tt
 targets T G s v p (give h i t) e = give-aims T G s v p h i t e
 
+-- from the phase to the place
 aims : (T : Tree) (f : Place) (w : ℕ) → Targets T (phase-of f w) → Aims T f
 aims T f w a = grind (arith, tells)
 
--- the number of a reader's place
+-- the number of a reader: the most moves until it is idle or at R3
 abbrev pub stage-1 : Place → ℕ
 stage-1 Idle = 0
 stage-1 (W1 i) = 0
@@ -138,11 +146,13 @@ stage-1 R7 = 1
 stage-1 Writer = 0
 stage-1 Reader = 2
 
+-- a step of a reader that has a number lowers it
 reader-falls : (L : Plan) (s : Lock) (p : ℕ) (f : Place) → 0 < stage-1 f → f ≢ Reader
     → Busy f × (stage-1 (row L s p f .place p) < stage-1 f)
 unfolding upd
 reader-falls L s p f a b = grind (arith, tells)
 
+-- inside as reader, or not
 reads-or : (f : Place) → (f ≡ Reader) ⊎ (f ≢ Reader)
 reads-or f = grind (arith, tells)
 
@@ -150,6 +160,7 @@ module _ (P : ℕ) (L : Plan) (g : Apt P L) where
   abbrev T : Tree
   T = L .tree
 
+  -- a step of a rank that has a row is accepted
   pub accept : (s : Lock) → Good P L s → (p : ℕ) → On P p → Busy (s .place p) → Accepted P L s (Step p)
   accept s v p on b =
       let q = v .safe .fine .queues in
@@ -160,6 +171,7 @@ module _ (P : ℕ) (L : Plan) (g : Apt P L) where
         accepts L s p (s .place p) (g .sensible .small) (q .range p) (v .safe .fine .sound p) (v .safe .within p) a b,
       )
 
+  -- and keeps the invariant
   pub good-step : (s : Lock) → Good P L s → (p : ℕ) → On P p → Good P L (row L s p (s .place p))
   good-step s v p on =
       let e = g .sensible in
@@ -170,6 +182,7 @@ module _ (P : ℕ) (L : Plan) (g : Apt P L) where
             (v .safe) p (g .all p on) (s .place p) refl;
       }
 
+  -- so does a leave of a reader
   pub good-leave-read : (s : Lock) → Good P L s → (p : ℕ) → On P p → s .place p ≡ Reader → Good P L (go s p R7)
   good-leave-read s v p on a =
       let e = g .sensible in
@@ -179,6 +192,7 @@ module _ (P : ℕ) (L : Plan) (g : Apt P L) where
             (v .safe) p on a;
       }
 
+  -- and of a writer
   pub good-leave-write : (s : Lock) → Good P L s → (p : ℕ) → On P p → s .place p ≡ Writer
       → Good P L (go s p (cond (leb (T .own-level p) 1) U4 (U1 (T .own-level p))))
   good-leave-write s v p on a =
@@ -199,11 +213,13 @@ module _ (P : ℕ) (L : Plan) (g : Apt P L) where
       (λ k. k (good-step s v p on))
       r)
 
+  -- the same with a leave of a reader
   pub by-leave-read : (Q : Lock → Type 0) (s : Lock) → Good P L s → (p : ℕ) → On P p → s .place p ≡ Reader
       → (Good P L (go s p R7) → Reach P L Q (go s p R7)) → Reach P L Q s
   by-leave-read Q s v p on e r = move s (Leave p) (on, subst In (sym e) (omega arith))
       (subst (λ f. Reach P L Q (go s p (exit L p f))) (sym e) (r (good-leave-read s v p on e)))
 
+  -- and of a writer
   pub by-leave-write : (Q : Lock → Type 0) (s : Lock) → Good P L s → (p : ℕ) → On P p → s .place p ≡ Writer
       → (Good P L (go s p (cond (leb (T .own-level p) 1) U4 (U1 (T .own-level p))))
       → Reach P L Q (go s p (cond (leb (T .own-level p) 1) U4 (U1 (T .own-level p))))) → Reach P L Q s
@@ -217,6 +233,7 @@ module _ (P : ℕ) (L : Plan) (g : Apt P L) where
   lowers num s t p on e l =
       sum-falls P (λ q. num q (s .place q)) (λ q. num q (t .place q)) p on (λ q a. ap (num q) (e q a)) l
 
+  -- one move of a reader lowers the sum
   one-reader : (s : Lock) → Good P L s → (p : ℕ) → On P p → 0 < stage-1 (s .place p)
       → Reach P L (Lower P L (λ q. stage-1) (Good P L) s) s
   one-reader s v p on h = by (reads-or (s .place p))

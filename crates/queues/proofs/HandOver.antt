@@ -1,4 +1,6 @@
--- A hand-over at level i (rows U3 and U9): the head of a queue goes, and the next rank holds.
+-- A hand-over at level i (rows U3 and U9): the head of a queue goes, and its successor holds from level h on. At U3 h
+-- is 1: the successor takes all levels above i too, where it has the same nodes, since both run below one element. At
+-- U9 h is i. What the giver holds deeper than i it keeps.
 use Prim.Native.Nat.{ℕ, suc, _≤_, _<_}
 use mathlib.Core.Path.{_≡_, refl, sym, _∙_, ap, subst}
 use mathlib.Core.Logic.{_⊎_, inl, inr, _≢_}
@@ -9,6 +11,7 @@ use Rattle.queues.specs.Machine.{hold-level, InRange, Waits, Calm, State, Inv,
 use Rattle.queues.proofs.OneHolder.{range-of, one-holder, one-owner, waits-level, waits-on, Successor}
 use Rattle.queues.proofs.Cases.{split, split₂, calm-asks}
 
+-- the queues with new phases and one head gone
 abbrev pub passed : State → (ℕ → Phase) → (ℕ → ℕ) → State
 passed s phases head-turn =
     record {
@@ -20,6 +23,7 @@ passed s phases head-turn =
       next-turn = s .next-turn;
     }
 
+-- what is asked of a hand-over from rank p to its successor r
 pub record Passes (T : Tree) (s : State) (p r h i : ℕ) (phases : ℕ → Phase) (head-turn : ℕ → ℕ) : Type 0 where
   pub giver : hold-level (T .own-level p) (phases p) ≡ suc i
   pub calm : Calm (phases p)
@@ -38,21 +42,26 @@ module _ (T : Tree) (G : Lawful T) (s : State) (v : Inv T s) (p h i t : ℕ) (e 
   abbrev s′ : State
   s′ = passed s phases head-turn
 
+  -- the levels of the giver
   rg : (1 ≤ h) × (h ≤ i) × (i ≤ T .own-level p)
   rg = range-of (s .phases p) (T .own-level p) (v .range p) (give h i t) e
 
   on-p : On (T .own-level p) i
   on-p = omega (arith, rg)
 
+  -- the giver held from h down
   level-p : hold-level (T .own-level p) (s .phases p) ≡ h
   level-p = ap (hold-level (T .own-level p)) e
 
+  -- the taker held all below i
   level-r : hold-level (T .own-level r) (s .phases r) ≡ suc i
   level-r = ap (hold-level (T .own-level r)) (n .waits)
 
+  -- now it holds from h down
   level-r′ : hold-level (T .own-level r) (phases r) ≡ h
   level-r′ = ap (hold-level (T .own-level r)) (c .taker)
 
+  -- nobody else holds more or less
   level-o : (q : ℕ) → q ≢ p → q ≢ r
       → hold-level (T .own-level q) (phases q) ≡ hold-level (T .own-level q) (s .phases q)
   level-o q a b = ap (hold-level (T .own-level q)) (c .others q a b)
@@ -61,12 +70,14 @@ module _ (T : Tree) (G : Lawful T) (s : State) (v : Inv T s) (p h i t : ℕ) (e 
   differs : (q j : ℕ) → On (T .own-level q) j → j ≢ i → T .element q j ≢ T .element p i
   differs q j on ne eq = ne (G .level-of q p j i on on-p eq)
 
+  -- no turn comes back
   head-grows : (k : ℕ) → s .head-turn k ≤ head-turn k
   head-grows = split (T .element p i)
       (λ k. s .head-turn k ≤ head-turn k)
       (omega (arith, c .head-gone))
       (λ k ne. omega (arith, c .stay k ne))
 
+  -- levels are in range
   range′ : (q : ℕ) → InRange (T .own-level q) (phases q)
   range′ = split₂ p r
       (λ q. InRange (T .own-level q) (phases q))
@@ -74,16 +85,19 @@ module _ (T : Tree) (G : Lawful T) (s : State) (v : Inv T s) (p h i t : ℕ) (e 
       (rw (c .taker) (omega (arith, rg, n .on)))
       (λ q a b. rw (c .others q a b) (v .range q))
 
+  -- the queue still has a head
   order′ : (k : ℕ) → head-turn k ≤ s .next-turn k
   order′ = split (T .element p i)
       (λ k. head-turn k ≤ s .next-turn k)
       (omega (arith, c .head-gone, n .more))
       (λ k ne. omega (arith, c .stay k ne, v .order k))
 
+  -- no node stands twice
   once′ : (k a b : ℕ) → head-turn k ≤ a → a < s .next-turn k → head-turn k ≤ b → b < s .next-turn k
       → s .node-at k a ≡ s .node-at k b → a ≡ b
   once′ k a b l l′ m m′ q = v .once k a b (omega (arith, head-grows k)) l′ (omega (arith, head-grows k)) m′ q
 
+  -- no queue became empty
   empty′ : (k : ℕ) → head-turn k ≡ s .next-turn k → s .tails k ≡ 0
   empty′ = split (T .element p i)
       (λ k. head-turn k ≡ s .next-turn k → s .tails k ≡ 0)
@@ -98,6 +112,7 @@ module _ (T : Tree) (G : Lawful T) (s : State) (v : Inv T s) (p h i t : ℕ) (e 
         is = rw (c .stay (T .element q j) ne) (o .is);
       }
 
+  -- the giver is the head of what it keeps
   heads-p : (j : ℕ) → On (T .own-level p) j → hold-level (T .own-level p) (phases p) ≤ j → Heads T s′ p j
   heads-p j on l =
       kept p j (differs p j on (omega (arith, c .giver))) (v .heads p j on (omega (arith, c .giver, level-p, rg)))
@@ -112,15 +127,18 @@ module _ (T : Tree) (G : Lawful T) (s : State) (v : Inv T s) (p h i t : ℕ) (e 
             (up (suc j) (omega arith) l),
       )
 
+  -- the taker is the head of the queue handed over
   heads-here : Heads T s′ r i
   heads-here = record { some = rw (n .queue, c .head-gone) (n .more); is = rw (n .queue, c .head-gone) (n .is) }
 
+  -- and above it has the giver's nodes
   heads-up : (j : ℕ) → 1 ≤ j → h ≤ j → j < i → Heads T s r j
   heads-up j on l m =
       let sh = shares j on m in
       let hd : Heads T s p j = v .heads p j (omega (arith, on-p)) (omega (arith, level-p)) in
       record { some = rw (sh .0) (hd .some); is = rw (sh .0, sh .1) (hd .is) }
 
+  -- so the taker is the head of all that it holds
   heads-r : (j : ℕ) → On (T .own-level r) j → hold-level (T .own-level r) (phases r) ≤ j → Heads T s′ r j
   heads-r j on l = by (cases-order j i)
     where
@@ -129,6 +147,7 @@ module _ (T : Tree) (G : Lawful T) (s : State) (v : Inv T s) (p h i t : ℕ) (e 
       by (inr (inl z)) = kept r j (differs r j on (omega arith)) (heads-up j (on .from) (omega (arith, level-r′)) z)
       by (inr (inr z)) = kept r j (differs r j on (omega arith)) (v .heads r j on (omega (arith, level-r)))
 
+  -- others are heads as before
   heads-o : (q : ℕ) → q ≢ p → q ≢ r → (j : ℕ) → On (T .own-level q) j → hold-level (T .own-level q) (phases q) ≤ j
       → Heads T s′ q j
   heads-o q a b j on l =
@@ -141,6 +160,7 @@ module _ (T : Tree) (G : Lawful T) (s : State) (v : Inv T s) (p h i t : ℕ) (e 
       (w ∙ ap (T .element p) (sym z))))
       (v .heads q j on l′)
 
+  -- whoever holds is the head
   heads′ : (q j : ℕ) → On (T .own-level q) j → hold-level (T .own-level q) (phases q) ≤ j → Heads T s′ q j
   heads′ = split₂ p r
       (λ q. (j : ℕ) → On (T .own-level q) j → hold-level (T .own-level q) (phases q) ≤ j → Heads T s′ q j)
@@ -165,6 +185,7 @@ module _ (T : Tree) (G : Lawful T) (s : State) (v : Inv T s) (p h i t : ℕ) (e 
           rw (z, c .head-gone) (omega (arith, clash z))
       low (inr z) = rw (c .stay (T .element q j) z) (b .low)
 
+  -- another rank finds its words as before
   asks-o : (q : ℕ) → q ≢ r → (f : Phase) → s .phases q ≡ f → Asks T s q f → Asks T s′ q f
   unfolding behind
   asks-o q b out w o = tt
@@ -182,6 +203,7 @@ module _ (T : Tree) (G : Lawful T) (s : State) (v : Inv T s) (p h i t : ℕ) (e 
   asks-o q b (hold j) w o = tt
   asks-o q b (give g j u) w o = o
 
+  -- each rank does
   asks′ : (q : ℕ) → Asks T s′ q (phases q)
   asks′ = split₂ p r
       (λ q. Asks T s′ q (phases q))
@@ -244,6 +266,7 @@ module _ (T : Tree) (G : Lawful T) (s : State) (v : Inv T s) (p h i t : ℕ) (e 
       from-o x a b j on q is l =
           record { rank = x; level = j; on = on; queue = q; is = rw head-k is; holds = omega (arith, level-o x a b) }
 
+  -- each head has its holder
   holder′ : (k : ℕ) → head-turn k < s .next-turn k → Holder T s′ k
   holder′ = split (T .element p i)
       (λ k. head-turn k < s .next-turn k → Holder T s′ k)
@@ -258,6 +281,7 @@ module _ (T : Tree) (G : Lawful T) (s : State) (v : Inv T s) (p h i t : ℕ) (e 
       })
       (λ k ne l. holder-o k ne (v .holder k (omega (arith, c .stay k ne))))
 
+  -- who waited behind the taker still waits
   member-of : (k a : ℕ) → head-turn k ≤ a → suc a < s .next-turn k → Member T s k (suc a) → Member T s′ k (suc a)
   member-of k a l l′ m =
       record {
@@ -292,9 +316,11 @@ module _ (T : Tree) (G : Lawful T) (s : State) (v : Inv T s) (p h i t : ℕ) (e 
           (m .is ∙ (ap (λ x. T .node x (m .level)) (sym z) ∙ (ap (T .node r) (sym lv) ∙ sym first))) in
           absurd (omega arith)
 
+  -- all behind the head wait
   member′ : (k a : ℕ) → head-turn k ≤ a → suc a < s .next-turn k → Member T s′ k (suc a)
   member′ k a l l′ = member-of k a l l′ (v .member k a (omega (arith, head-grows k)) l′)
 
+  -- so the invariant is kept
   pub handed : Inv T s′
   handed =
       record {

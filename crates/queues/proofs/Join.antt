@@ -1,4 +1,5 @@
--- Row W3: a node joins the end of its queue. In an empty queue its rank holds at once.
+-- Row W3: a node joins the end of its queue and is its TAIL. It stood in no queue before, its NEXT is 0, and its rank
+-- waits behind the old tail; in an empty queue, which the old TAIL of 0 tells, the rank holds at once.
 use Prim.Native.Nat.{ℕ, suc, pred, _≤_, _<_}
 use mathlib.Core.Path.{_≡_, refl, sym, _∙_, ap, subst}
 use mathlib.Core.Logic.{_⊎_, inl, inr, _≢_, ⊎-elim}
@@ -9,6 +10,7 @@ use Rattle.queues.specs.Machine.{hold-level, InRange, Waits, State, Inv, Holde
 use Rattle.queues.proofs.OneHolder.{range-of, apart, asked, Occupant, occupant}
 use Rattle.queues.proofs.Cases.{split}
 
+-- the queues with new phases, TAIL words and one more turn
 abbrev pub joined : State → (ℕ → Phase) → (ℕ → ℕ) → (ℕ → ℕ → ℕ) → (ℕ → ℕ) → State
 joined s phases tails at next-turn =
     record {
@@ -20,6 +22,7 @@ joined s phases tails at next-turn =
       next-turn = next-turn;
     }
 
+-- what is asked of a move that joins: it waits behind the old tail, or holds where there was none
 pub record Joins (T : Tree) (s : State) (p i : ℕ) (phases : ℕ → Phase) (tails : ℕ → ℕ) (at : ℕ → ℕ → ℕ)
     (next-turn : ℕ → ℕ) : Type 0
   where
@@ -47,6 +50,7 @@ module _ (T : Tree) (G : Lawful T) (s : State) (v : Inv T s) (p i : ℕ) (e : s 
   level-p : hold-level (T .own-level p) (s .phases p) ≡ suc i
   level-p = ap (hold-level (T .own-level p)) e
 
+  -- who is about to join does not wait yet
   not-waits : (j : ℕ) → Waits (s .phases p) j → ⊥
   not-waits j w = subst (λ f. Waits f j) e w
 
@@ -57,20 +61,24 @@ module _ (T : Tree) (G : Lawful T) (s : State) (v : Inv T s) (p i : ℕ) (e : s 
       let o : Occupant T s k a = occupant T G s v k a (omega arith) (omega arith) in
       G .no-zero (o .rank) (o .level) (o .on) (sym (o .is) ∙ (sym (v .tail k a (omega arith) (omega arith)) ∙ z))
 
+  -- a TAIL of 0 is that of an empty queue
   bare : s .tails K ≡ 0 → s .head-turn K ≡ s .next-turn K
   bare z = ⊎-elim
       (λ (l : s .head-turn K < s .next-turn K). absurd (tail-set K l z))
       (λ (l : s .next-turn K ≤ s .head-turn K). omega (arith, v .order K))
       (cases-lt (s .head-turn K) (s .next-turn K))
 
+  -- any other is that of a queue with a node
   full : s .tails K ≢ 0 → s .head-turn K < s .next-turn K
   full z = ⊎-elim
       (λ (l : s .head-turn K < s .next-turn K). l)
       (λ (l : s .next-turn K ≤ s .head-turn K). absurd (z (v .empty K (omega (arith, v .order K)))))
       (cases-lt (s .head-turn K) (s .next-turn K))
 
-  hi-more : (k : ℕ) → s .next-turn k ≤ next-turn k
-  hi-more = split K (λ k. s .next-turn k ≤ next-turn k) (omega (arith, c .more)) (λ k ne. omega (arith, c .stay k ne))
+  -- no turn is lost
+  turn-grows : (k : ℕ) → s .next-turn k ≤ next-turn k
+  turn-grows =
+      split K (λ k. s .next-turn k ≤ next-turn k) (omega (arith, c .more)) (λ k ne. omega (arith, c .stay k ne))
 
   -- a turn is an old one, or the new one
   turns : (k : ℕ) → (a : ℕ) → a < next-turn k → (a < s .next-turn k) ⊎ ((k ≡ K) × (a ≡ s .next-turn k))
@@ -83,12 +91,15 @@ module _ (T : Tree) (G : Lawful T) (s : State) (v : Inv T s) (p i : ℕ) (e : s 
       (cases-lt a (s .next-turn K)))
       (λ k ne a l. inl (omega (arith, c .stay k ne)))
 
+  -- the new turn is the own node
   new-at : (k a : ℕ) → k ≡ K → a ≡ s .next-turn k → at k a ≡ T .node p i
   new-at k a z w = rw (w, z) (c .new)
 
+  -- no old turn is
   fresh-at : (k a : ℕ) → s .head-turn k ≤ a → a < s .next-turn k → at k a ≢ T .node p i
   fresh-at k a l l′ z = apart T G s v p i on-p level-p (not-waits i) k a l l′ (sym (c .old k a l′) ∙ z)
 
+  -- no node stands twice
   once′ : (k a b : ℕ) → s .head-turn k ≤ a → a < next-turn k → s .head-turn k ≤ b → b < next-turn k → at k a ≡ at k b
       → a ≡ b
   once′ k a b l l′ m m′ z = by (turns k a l′) (turns k b m′)
@@ -100,6 +111,7 @@ module _ (T : Tree) (G : Lawful T) (s : State) (v : Inv T s) (p i : ℕ) (e : s 
       by (inr x) (inl y) = absurd (fresh-at k b m y (sym z ∙ new-at k a (x .0) (x .1)))
       by (inr x) (inr y) = omega arith
 
+  -- the TAIL is the last node
   tail′ : (k a : ℕ) → s .head-turn k ≤ a → suc a ≡ next-turn k → tails k ≡ at k a
   tail′ = split K
       (λ k. (a : ℕ) → s .head-turn k ≤ a → suc a ≡ next-turn k → tails k ≡ at k a)
@@ -108,6 +120,7 @@ module _ (T : Tree) (G : Lawful T) (s : State) (v : Inv T s) (p i : ℕ) (e : s 
       c .other-tails k ne
       ∙ (v .tail k a l (omega (arith, c .stay k ne)) ∙ sym (c .old k a (omega (arith, c .stay k ne)))))
 
+  -- its NEXT is 0
   ends′ : (k a : ℕ) → s .head-turn k ≤ a → suc a ≡ next-turn k → s .nexts (at k a) ≡ 0
   ends′ = split K
       (λ k. (a : ℕ) → s .head-turn k ≤ a → suc a ≡ next-turn k → s .nexts (at k a) ≡ 0)
@@ -115,13 +128,15 @@ module _ (T : Tree) (G : Lawful T) (s : State) (v : Inv T s) (p i : ℕ) (e : s 
       (λ k ne a l z.
       ap (s .nexts) (c .old k a (omega (arith, c .stay k ne))) ∙ v .ends k a l (omega (arith, c .stay k ne)))
 
+  -- heads stay heads
   grown : (q j : ℕ) → Heads T s q j → Heads T s′ q j
   grown q j o =
       record {
-        some = omega (arith, hi-more (T .element q j), o .some);
+        some = omega (arith, turn-grows (T .element q j), o .some);
         is = c .old (T .element q j) (s .head-turn (T .element q j)) (o .some) ∙ o .is;
       }
 
+  -- the rank is the head of what it holds: deeper as before, and here if the queue was empty
   heads-p : (j : ℕ) → On (T .own-level p) j → hold-level (T .own-level p) (phases p) ≤ j → Heads T s′ p j
   heads-p j on l = by (c .after) (cases-eq j i)
     where
@@ -140,6 +155,7 @@ module _ (T : Tree) (G : Lawful T) (s : State) (v : Inv T s) (p i : ℕ) (e : s 
           let w : hold-level (T .own-level p) (phases p) ≡ suc i = ap (hold-level (T .own-level p)) (x .1) in
           grown p j (v .heads p j on (omega (arith, level-p)))
 
+  -- nobody holds less
   levels′ : (q : ℕ) → hold-level (T .own-level q) (phases q) ≤ hold-level (T .own-level q) (s .phases q)
   levels′ = split p
       (λ q. hold-level (T .own-level q) (phases q) ≤ hold-level (T .own-level q) (s .phases q))
@@ -151,6 +167,7 @@ module _ (T : Tree) (G : Lawful T) (s : State) (v : Inv T s) (p i : ℕ) (e : s 
       by (inl x) = omega (arith, level-p, ap (hold-level (T .own-level p)) (x .1))
       by (inr x) = omega (arith, level-p, ap (hold-level (T .own-level p)) (x .1))
 
+  -- each head has its holder
   holder′ : (k : ℕ) → s .head-turn k < next-turn k → Holder T s′ k
   holder′ k l = by (turns k (s .head-turn k) l) (c .after)
     where
@@ -178,6 +195,7 @@ module _ (T : Tree) (G : Lawful T) (s : State) (v : Inv T s) (p i : ℕ) (e : s 
           }
       by (inr x) (inr y) = let f : s .head-turn k < s .next-turn k = rw (x .0) (full (y .0)) in absurd (omega arith)
 
+  -- all others wait
   member′ : (k a : ℕ) → s .head-turn k ≤ a → suc a < next-turn k → Member T s′ k (suc a)
   member′ k a l l′ = by (turns k (suc a) l′) (c .after)
     where
@@ -210,15 +228,17 @@ module _ (T : Tree) (G : Lawful T) (s : State) (v : Inv T s) (p i : ℕ) (e : s 
             waits = rw (y .1) refl;
           }
 
+  -- old turns are as they were
   behind : (q j : ℕ) → Behind T s q j → Behind T s′ q j
   behind q j b =
       record {
         turn = b .turn;
         low = b .low;
-        high = omega (arith, b .high, hi-more (T .element q j));
+        high = omega (arith, b .high, turn-grows (T .element q j));
         is = c .old (T .element q j) (suc (b .turn)) (b .high) ∙ b .is;
       }
 
+  -- other ranks find their words as before
   asks-o : (q : ℕ) → (f : Phase) → Asks T s q f → Asks T s′ q f
   unfolding behind
   asks-o q out o = tt
@@ -234,6 +254,7 @@ module _ (T : Tree) (G : Lawful T) (s : State) (v : Inv T s) (p i : ℕ) (e : s 
   asks-o q (hold j) o = tt
   asks-o q (give h j u) o = o
 
+  -- the rank that joined has the old tail before it
   asks-p : Asks T s′ p (phases p)
   asks-p = by (c .after)
     where
@@ -255,6 +276,7 @@ module _ (T : Tree) (G : Lawful T) (s : State) (v : Inv T s) (p i : ℕ) (e : s 
             none = ap (s .nexts) z ∙ v .ends K a (omega arith) (omega arith);
           })
 
+  -- its level is in range
   range-p : InRange (T .own-level p) (phases p)
   range-p = by (c .after)
     where
@@ -263,11 +285,12 @@ module _ (T : Tree) (G : Lawful T) (s : State) (v : Inv T s) (p i : ℕ) (e : s 
       by (inl x) = rw (x .1) on-p
       by (inr x) = rw (x .1) on-p
 
+  -- so the invariant is kept
   pub joined-up : Inv T s′
   joined-up =
       record {
         range = split p (λ q. InRange (T .own-level q) (phases q)) range-p (λ q a. rw (c .others q a) (v .range q));
-        order = λ k. omega (arith, v .order k, hi-more k);
+        order = λ k. omega (arith, v .order k, turn-grows k);
         once = once′;
         empty = split K
             (λ k. s .head-turn k ≡ next-turn k → tails k ≡ 0)

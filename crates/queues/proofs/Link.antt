@@ -1,4 +1,6 @@
--- Row W4: a rank that has joined writes its node into the NEXT of the node before it.
+-- Row W4: a rank that has joined writes its node into the NEXT of the node before it, and waits. Of the queued nodes
+-- only that one is written; it is not the last of its queue, and no other rank stands right behind it or is about to
+-- link itself to it.
 use Prim.Native.Nat.{ℕ, suc, _≤_, _<_}
 use mathlib.Core.Path.{_≡_, refl, sym, _∙_, ap, subst}
 use mathlib.Core.Logic.{_≢_}
@@ -9,6 +11,7 @@ use Rattle.queues.proofs.OneHolder.{range-of, one-owner, apart, asked, one-tur
 use Rattle.queues.proofs.Cases.{split}
 use Rattle.queues.proofs.OwnMoves.{prepared}
 
+-- what is asked of a move that links
 pub record Links (T : Tree) (s : State) (p i t : ℕ) (phases : ℕ → Phase) (nexts : ℕ → ℕ) : Type 0 where
   pub after : phases p ≡ wait i
   pub others : (q : ℕ) → q ≢ p → phases q ≡ s .phases q
@@ -23,9 +26,11 @@ module _ (T : Tree) (G : Lawful T) (s : State) (v : Inv T s) (p i t : ℕ) (e : 
   on-p : On (T .own-level p) i
   on-p = range-of (s .phases p) (T .own-level p) (v .range p) (link i t) e
 
+  -- what the rank found before
   was : Linking T s p i t
   was = asked T s v p (link i t) e
 
+  -- no hold level changes
   levels′ : (q : ℕ) → hold-level (T .own-level q) (phases q) ≡ hold-level (T .own-level q) (s .phases q)
   levels′ = split p
       (λ q. hold-level (T .own-level q) (phases q) ≡ hold-level (T .own-level q) (s .phases q))
@@ -52,6 +57,7 @@ module _ (T : Tree) (G : Lawful T) (s : State) (v : Inv T s) (p i t : ℕ) (e : 
       (one-owner T G s v q p j i on on-p (omega arith) (omega (arith, ap (hold-level (T .own-level p)) e))
       (sym (b .is) ∙ (rw (← (d .0), ← (d .1)) (was .spot .is))) .0)
 
+  -- the turns are as they were
   behind : (q j : ℕ) → Behind T s q j → Behind T s′ q j
   behind q j b = record { turn = b .turn; low = b .low; high = b .high; is = b .is }
 
@@ -63,6 +69,7 @@ module _ (T : Tree) (G : Lawful T) (s : State) (v : Inv T s) (p i t : ℕ) (e : 
       apart T G s v q j on l w (T .element p i) (was .spot .turn) (was .spot .low) (omega (arith, was .spot .high))
       (sym (was .target) ∙ sym z))
 
+  -- another rank finds its words as before
   asks-o : (q : ℕ) → q ≢ p → (f : Phase) → s .phases q ≡ f → InRange (T .own-level q) f → Asks T s q f → Asks T s′ q f
   unfolding behind
   asks-o q a out w g o = tt
@@ -88,10 +95,12 @@ module _ (T : Tree) (G : Lawful T) (s : State) (v : Inv T s) (p i t : ℕ) (e : 
   asks-o q a (give h j u) w g o =
       (o .0 ∙ sym (c .words (T .node q j) (λ z. o .1 (o .0 ∙ (ap (s .nexts) (z ∙ was .target) ∙ was .none)))), o .1)
 
+  -- the rank itself is linked
   asks-p : Asks T s′ p (wait i)
   unfolding behind
   asks-p = record { spot = behind p i (was .spot); linked = ap nexts (sym (was .target)) ∙ c .written }
 
+  -- so the invariant is kept
   pub linked-up : Inv T s′
   linked-up =
       record {

@@ -1,4 +1,8 @@
--- One holder, one owner of a node, and what stands in a queue.
+-- An element has one holder, and a node is used by one rank. Two ranks that hold one element are both the head of its
+-- queue, so they have one node there. Then they are one rank, or both hold the same element one level deeper: the
+-- argument goes down to the leaf, where the node is the rank's own.
+-- From this: who stands at a turn of a queue, that a node which has not joined stands in none, and who stands behind
+-- a holder that is about to hand over.
 use Prim.Native.Nat.{ℕ, zero, suc, _+_, _-_, _≤_, _<_}
 use mathlib.Core.Path.{_≡_, sym, _∙_, ap, subst, subst₂}
 use mathlib.Core.Logic.{_⊎_, inl, inr, _≢_, ⊎-elim}
@@ -8,9 +12,11 @@ use Rattle.std.proofs.shelf.Tests.{cases-eq}
 use Rattle.queues.specs.Machine.{Tree, Lawful, On, Phase, link, wait, give, hold-level, InRange, Waits, State, Inv}
 use Rattle.queues.specs.Machine.{Holder, Member, Heads, Behind, Asks}
 
+-- the levels of a phase that is known are in range
 pub range-of : (f : Phase) (top : ℕ) → InRange top f → (g : Phase) → f ≡ g → InRange top g
 range-of f top h g e = subst (λ (x : Phase). InRange top x) e h
 
+-- who uses the node at turn a of the queue of k: it holds k and the turn is the head, or it waits there
 pub record Occupant (T : Tree) (s : State) (k a : ℕ) : Type 0 where
   pub rank : ℕ
   pub level : ℕ
@@ -21,6 +27,7 @@ pub record Occupant (T : Tree) (s : State) (k a : ℕ) : Type 0 where
   pub role : ((a ≡ s .head-turn k) × (hold-level (T .own-level rank) (s .phases rank) ≤ level))
       ⊎ Waits (s .phases rank) level
 
+-- who stands behind rank p at level i, and that t is its node
 pub record Successor (T : Tree) (s : State) (p i t : ℕ) : Type 0 where
   pub rank : ℕ
   pub on : On (T .own-level rank) i
@@ -30,6 +37,7 @@ pub record Successor (T : Tree) (s : State) (p i t : ℕ) : Type 0 where
   pub is : s .node-at (T .element p i) (suc (s .head-turn (T .element p i))) ≡ T .node rank i
   pub target : t ≡ T .node rank i
 
+-- what a rank whose phase is known finds in the words
 pub asked : (T : Tree) (s : State) → Inv T s → (p : ℕ) (f : Phase) → s .phases p ≡ f → Asks T s p f
 asked T s v p f e = subst (Asks T s p) e (v .asks p)
 
@@ -37,9 +45,11 @@ asked T s v p f e = subst (Asks T s p) e (v .asks p)
 pub level-waits : (top : ℕ) (f : Phase) (i : ℕ) → Waits f i → hold-level top f ≡ suc i
 level-waits top f i w = grind (arith, tells)
 
+-- the level at which a rank waits is one of its own
 pub range-waits : (top : ℕ) (f : Phase) (i : ℕ) → InRange top f → Waits f i → On top i
 range-waits top f i r w = grind (arith, tells)
 
+-- who waits has linked itself or is about to
 pub waits-cases : (f : Phase) (i : ℕ) → Waits f i → (f ≡ wait i) ⊎ ((t : ℕ) × (f ≡ link i t))
 waits-cases f i w = grind (arith, tells)
 
@@ -51,7 +61,7 @@ module _ (T : Tree) (G : Lawful T) (s : State) (v : Inv T s) where
   one-head p r i on on′ h h′ e =
       sym (v .heads p i on h .is) ∙ (ap (λ k. s .node-at k (s .head-turn k)) e ∙ v .heads r i on′ h′ .is)
 
-  -- two ranks that hold one element are one rank: down to the leaf
+  -- two ranks that hold one element are one rank: down to the leaf, d levels below
   one-holder-by : (d p r i : ℕ) → i + d ≡ T .own-level p → On (T .own-level p) i → On (T .own-level r) i
       → hold-level (T .own-level p) (s .phases p) ≤ i → hold-level (T .own-level r) (s .phases r) ≤ i
       → T .element p i ≡ T .element r i → p ≡ r
@@ -66,6 +76,7 @@ module _ (T : Tree) (G : Lawful T) (s : State) (v : Inv T s) where
       one-holder-by d p r (suc i) (omega arith) (omega arith) (omega arith) (omega arith) (omega arith) (q .2))
       (G .below p r i on on′ (one-head p r i on on′ h h′ e))
 
+  -- two ranks that hold one element are one rank
   pub one-holder : (p r i : ℕ) → On (T .own-level p) i → On (T .own-level r) i
       → hold-level (T .own-level p) (s .phases p) ≤ i → hold-level (T .own-level r) (s .phases r) ≤ i
       → T .element p i ≡ T .element r i → p ≡ r
@@ -86,9 +97,11 @@ module _ (T : Tree) (G : Lawful T) (s : State) (v : Inv T s) where
         same,
       )
 
+  -- who waits at a level holds all below it
   pub waits-level : (p i : ℕ) → Waits (s .phases p) i → hold-level (T .own-level p) (s .phases p) ≡ suc i
   waits-level p i w = level-waits (T .own-level p) (s .phases p) i w
 
+  -- and the level is one of its own
   pub waits-on : (p i : ℕ) → Waits (s .phases p) i → On (T .own-level p) i
   waits-on p i w = range-waits (T .own-level p) (s .phases p) i (v .range p) w
 

@@ -1,4 +1,5 @@
--- From moves to calls: a machine that shows the lock comes back to idle by the same list.
+-- From moves of the abstract machine to calls of any machine that shows it: if each accepted move is a call that is
+-- done and goes on showing the lock, the way back is a list of calls.
 use Prim.Native.Nat.{ℕ}
 use mathlib.Core.Path.{_≡_, sym, subst}
 use mathlib.Core.Logic.{_⊎_, ⊎-elim}
@@ -20,6 +21,7 @@ abbrev pub calls : {B : Type 0} → (B → Move → B) → B → List Move → B
 calls call b [] = b
 calls call b (m ∷ ms) = calls call (call b m) ms
 
+-- and each is done
 abbrev pub Oks : {B : Type 0} → (B → Move → B) → (B → Move → Type 0) → B → List Move → Type 0
 Oks call Ok b [] = Unit {0}
 Oks call Ok b (m ∷ ms) = Ok b m × Oks call Ok (call b m) ms
@@ -41,6 +43,7 @@ module _ (P : ℕ) (L : Plan) (g : Apt P L) where
   Follows B call Ok Shows = (b : B) (s : Lock) (m : Move) → Good P L s → Shows b s → Accepted P L s m
       → Ok b m × Shows (call b m) (act L s m)
 
+  -- a way of the abstract machine is one of the other
   pub lifted : (B : Type 0) (call : B → Move → B) (Ok : B → Move → Type 0) (Shows : B → Lock → Type 0)
       → Follows B call Ok Shows → (Q : Lock → Type 0) (b : B) (s : Lock) → Good P L s → Shows b s → Reach P L Q s
       → (ms : List Move) × Oks call Ok b ms × ((t : Lock) × Good P L t × Q t × Shows (calls call b ms) t)
@@ -50,6 +53,7 @@ module _ (P : ℕ) (L : Plan) (g : Apt P L) where
       let w = lifted B call Ok Shows f Q (call b m) (act L s′ m) (good-act s′ v m a) (d .1) r in
       (m ∷ w .0, (d .0, w .1), w .2)
 
+  -- and so is the way back to rest
   pub back-onto : (B : Type 0) (call : B → Move → B) (Ok : B → Move → Type 0) (Shows : B → Lock → Type 0)
       → Follows B call Ok Shows → (b : B) (s : Lock) → Good P L s → Shows b s
       → (ms : List Move) × Oks call Ok b ms × ((t : Lock) × Good P L t × AtRest P L t × Shows (calls call b ms) t)

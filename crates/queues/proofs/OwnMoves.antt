@@ -1,6 +1,7 @@
--- A move that only its own rank sees: the hold level stays, and NEXT is written at most at a node that the rank has
--- prepared and not joined with.
--- Rows: ask to write, W1, W2, W6, U1, U2, U4, U5, U8, and all that leave the phase alone.
+-- A move that only its own rank sees keeps the invariant of the queues: the hold level stays, the rank does not wait,
+-- and NEXT is written at most at a node that it has prepared and not joined with. Such a node stands in no queue and
+-- is no other rank's, so nobody else finds a word changed.
+-- These are the asks, W1, W2, W6, U1, U2, U4, U5, U8, and all rows that leave the phase alone.
 use Prim.Native.Nat.{ℕ, suc, _≤_, _<_}
 use mathlib.Core.Path.{_≡_, refl, sym, _∙_, ap}
 use mathlib.Core.Logic.{_⊎_, _≢_, ⊎-elim}
@@ -10,6 +11,7 @@ use Rattle.queues.specs.Machine.{hold-level, InRange, Waits, State, Inv, Behin
 use Rattle.queues.proofs.OneHolder.{one-owner, apart}
 use Rattle.queues.proofs.Cases.{split}
 
+-- the queues with new phases and a new NEXT
 abbrev pub prepared : State → (ℕ → Phase) → (ℕ → ℕ) → State
 prepared s phases nexts =
     record {
@@ -28,6 +30,7 @@ pub record Mine (T : Tree) (s : State) (p y : ℕ) : Type 0 where
   pub near : hold-level (T .own-level p) (s .phases p) ≡ suc level
   pub is : y ≡ T .node p level
 
+-- what is asked of such a move
 pub record Prepares (T : Tree) (s : State) (p : ℕ) (phases : ℕ → Phase) (nexts : ℕ → ℕ) : Type 0 where
   pub levels : hold-level (T .own-level p) (phases p) ≡ hold-level (T .own-level p) (s .phases p)
   pub in-range : InRange (T .own-level p) (phases p)
@@ -41,6 +44,7 @@ module _ (T : Tree) (G : Lawful T) (s : State) (v : Inv T s) (p : ℕ) (phases :
   abbrev s′ : State
   s′ = prepared s phases nexts
 
+  -- no hold level changes
   levels′ : (q : ℕ) → hold-level (T .own-level q) (phases q) ≡ hold-level (T .own-level q) (s .phases q)
   levels′ = split p
       (λ q. hold-level (T .own-level q) (phases q) ≡ hold-level (T .own-level q) (s .phases q))
@@ -64,9 +68,11 @@ module _ (T : Tree) (G : Lawful T) (s : State) (v : Inv T s) (p : ℕ) (phases :
       absurd (ne (one-owner T G s v q p j (m .level) on (m .on) l (omega (arith, m .near)) (m .is) .0)))
       (c .words (T .node q j))
 
+  -- the turns are as they were
   behind : (q j : ℕ) → Behind T s q j → Behind T s′ q j
   behind q j b = record { turn = b .turn; low = b .low; high = b .high; is = b .is }
 
+  -- another rank finds its words as before
   asks-o : (q : ℕ) → q ≢ p → (f : Phase) → s .phases q ≡ f → InRange (T .own-level q) f → Asks T s q f → Asks T s′ q f
   unfolding behind
   asks-o q a out w g o = tt
@@ -88,6 +94,7 @@ module _ (T : Tree) (G : Lawful T) (s : State) (v : Inv T s) (p : ℕ) (phases :
   asks-o q a (give h j u) w g o =
       (o .0 ∙ sym (foreign q j a (omega arith) (omega (arith, ap (hold-level (T .own-level q)) w))), o .1)
 
+  -- so the invariant is kept
   pub kept-by : Inv T s′
   kept-by =
       record {

@@ -1,4 +1,5 @@
--- From places and words to phases: what a row changes of the view.
+-- What a row changes of phases and statuses. A phase reads a word at W5 alone, and a place speaks only of statuses of
+-- nodes that its rank uses: so a STATUS written elsewhere changes neither.
 use Prim.Native.Nat.{ℕ, suc, _≤_, _<_}
 use mathlib.Core.Path.{_≡_, refl, _∙_, ap}
 use mathlib.Core.Logic.{_⊎_, inl, inr, _≢_, ⊎-elim}
@@ -12,10 +13,12 @@ use Rattle.queues.specs.Table.{Place, Idle, W1, W2, W3, W4, W5, W6, W7, W8, W9
 use Rattle.queues.specs.Table.{U10, R1, R2, R3, R4, R5, R6, R7, Writer, Reader, WAIT, told-status, Plan, upd}
 use Rattle.queues.specs.Table.{phase-of, status-level, Counts, Sound}
 
+-- a changed function at the changed number
 pub upd-same : {A : Type 0} (f : ℕ → A) (a : ℕ) (v : A) → upd f a v a ≡ v
 unfolding upd
 upd-same f a v = rw (eq-eqb a a refl)
 
+-- and at any other
 pub upd-other : {A : Type 0} (f : ℕ → A) (a : ℕ) (v : A) (b : ℕ) → b ≢ a → upd f a v b ≡ f b
 unfolding upd
 upd-other f a v b h = rw (ne-eqb b a h)
@@ -24,16 +27,19 @@ upd-other f a v b h = rw (ne-eqb b a h)
 pub phase-same : (f : Place) (w w′ : ℕ) → ((j : ℕ) → f ≡ W5 j → w′ ≡ w) → phase-of f w′ ≡ phase-of f w
 phase-same f w w′ e = grind (arith, tells)
 
--- the three phases of W5
+-- at W5 with WAIT a rank waits
 pub w5-wait : (i w : ℕ) → w ≡ WAIT → phase-of (W5 i) w ≡ wait i
 w5-wait i w e = rw (eq-eqb w WAIT e)
 
+-- with a count it holds the whole machine
 pub w5-count : (i w : ℕ) → w ≤ 1000 → phase-of (W5 i) w ≡ hold 1
 w5-count i w e = rw (ne-eqb w WAIT (omega arith), le-leb w 1000 e)
 
+-- with anything else it holds this level
 pub w5-told : (i w : ℕ) → w ≢ WAIT → 1000 < w → phase-of (W5 i) w ≡ hold i
 w5-told i w e h = rw (ne-eqb w WAIT e, lt-leb w 1000 h)
 
+-- what U9 writes is neither WAIT nor a count
 pub told-large : (i : ℕ) → (WAIT < told-status i) × (1000 < told-status i)
 told-large i = ⊎-elim
     (λ (z : i ≡ 1). rw (eq-eqb i 1 z) (omega arith))
@@ -46,6 +52,7 @@ w5-levels top i true b = omega arith
 w5-levels top i false true = omega arith
 w5-levels top i false false = omega arith
 
+-- at W5 a rank holds all below
 pub w5-level : (top i w : ℕ) → hold-level top (phase-of (W5 i) w) ≤ suc i
 w5-level top i w = w5-levels top i (eqb w WAIT) (leb w 1000)
 
@@ -54,9 +61,11 @@ module _ (L : Plan) (small : (q j : ℕ) → L .hand-over-limit q j ≤ 1000) (s
   abbrev Same : ℕ → Type 0
   Same h = (j : ℕ) → On (L .tree .own-level q) j → h ≤ suc j → st′ (L .tree .node q j) ≡ statuses (L .tree .node q j)
 
+  -- counts stay counts
   counts-same : (h from : ℕ) → h ≤ suc from → 1 ≤ from → Same h → Counts L statuses q from → Counts L st′ q from
   counts-same h from l o e c j a b = rw (e j (omega arith) (omega arith)) (c j a b)
 
+  -- W5 says what it said
   sound-w5 : (i : ℕ) → Same (hold-level (L .tree .own-level q) (phase-of (W5 i) (statuses (L .tree .node q i))))
       → Sound L statuses q (W5 i) → Sound L st′ q (W5 i)
   sound-w5 i e c = (
@@ -85,6 +94,7 @@ module _ (L : Plan) (small : (q j : ℕ) → L .hand-over-limit q j ≤ 1000) (s
           (counts-same (hold-level (L .tree .own-level q) (phase-of (W5 i) w)) 1 (omega arith)
           (omega arith) e z))
 
+  -- and so does every place
   pub sound-same : (f : Place)
       → Same (hold-level (L .tree .own-level q) (phase-of f (statuses (L .tree .node q (status-level f)))))
       → Sound L statuses q f

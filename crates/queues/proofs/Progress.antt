@@ -1,4 +1,6 @@
--- The way back to idle, a sample: somebody can always move, and each move that does not wait lowers a number.
+-- Somebody can always move. Whoever waits, waits for an element that some rank holds; if that one waits too, it waits
+-- higher up, so the search ends at a rank that does not wait. A holder whose node is not the TAIL has a rank right
+-- behind it. And while nobody carries anything of a counter, the writer's test at W9 succeeds.
 use Prim.Native.Nat.{ℕ, zero, suc, _+_, _^_, _≤_, _<_}
 use mathlib.Core.Path.{_≡_, refl, sym, _∙_, ap, subst}
 use mathlib.Core.Logic.{_⊎_, inl, inr, _≢_, ⊎-elim}
@@ -12,7 +14,7 @@ use Rattle.queues.specs.Counters.{total, tries, admits, clears, Tally, Counted
 use Rattle.queues.proofs.OneHolder.{asked, waits-cases, turn-is}
 use Rattle.queues.proofs.Sums.{total-same, total-zero, total-swap}
 
--- does a phase wait for a STATUS
+-- a phase waits for a STATUS, or does not
 pub waits-or : (f : Phase) → ((i : ℕ) × (f ≡ wait i)) ⊎ ((i : ℕ) → f ≢ wait i)
 waits-or (wait i) = inl (i, refl)
 waits-or out = inr (λ i e. absurd (subst (λ f. Waits f i) (sym e) refl))
@@ -44,12 +46,13 @@ onward T G s v d i p l e again =
     record { rank = h .rank; holds = omega (arith, h .holds, h .on); free = w })
     (waits-or (s .phases (h .rank)))
 
+-- from whoever waits to a rank that holds something and does not wait
 pub mover : (T : Tree) → Lawful T → (s : State) → Inv T s → (d i p : ℕ) → i ≤ d → s .phases p ≡ wait i → Mover T s
 mover T G s v zero i p l e =
     let o : On (T .own-level p) i = subst (InRange (T .own-level p)) e (v .range p) in absurd (omega arith)
 mover T G s v (suc d) i p l e = onward T G s v d i p l e (λ j q m w. mover T G s v d j q m w)
 
--- a place from which the next row does not wait
+-- the next row of the rank neither waits nor repeats
 abbrev pub Able : Plan → Lock → ℕ → Place → Type 0
 Able L s p Idle = ⊥
 Able L s p (W1 i) = Unit {0}
@@ -88,6 +91,7 @@ pub record Follower (T : Tree) (s : State) (p i : ℕ) : Type 0 where
   pub how : ((s .phases rank ≡ wait i) × (s .nexts (T .node p i) ≡ T .node rank i))
       ⊎ (s .phases rank ≡ link i (T .node p i))
 
+-- if TAIL is not the own node, somebody stands behind
 pub follower : (T : Tree) (G : Lawful T) (s : State) (v : Inv T s) (p i : ℕ) → s .phases p ≡ hold i
     → s .tails (T .element p i) ≢ T .node p i → Follower T s p i
 follower T G s v p i e ne = found (v .member k (s .head-turn k) (omega arith) more)
@@ -139,7 +143,7 @@ follower T G s v p i e ne = found (v .member k (s .head-turn k) (omega arith) mo
             let a = asked T s v (m .rank) (link i (w .0)) (w .1) in
             inr (w .1 ∙ ap (link i) (a .target ∙ here (a .spot)))
 
--- while no rank carries anything of the counter k and its bit stands, W8 and W9 pass
+-- while no rank carries anything of the counter and its bit stands, ARRIVE is what W9 wants
 pub passes : (P C limit : ℕ) (s : Tally) → Counted P C limit s → (k : ℕ) → k < C → s .bit k ≡ 1
     → ((q : ℕ) → On P q → (tries (s .load q) k ≡ 0) × (admits (s .load q) k ≡ 0) × (clears (s .load q) k ≡ 0))
     → s .arrives k ≡ 2 ^ 62 + s .departs k
@@ -155,7 +159,7 @@ passes P C limit s v k l b h =
     ∙ total-zero P in
     omega (arith, v .each k l .sum)
 
--- the sum of the numbers falls where one rank's falls: only its own place changes in its row
+-- the sum of the numbers falls where one rank's falls
 pub sum-falls : (n : ℕ) (f g : ℕ → ℕ) (p : ℕ) → On n p → ((q : ℕ) → q ≢ p → g q ≡ f q) → g p < f p
     → total n g < total n f
 sum-falls n f g p on e l = omega (arith, total-swap n f g p on e)

@@ -1,4 +1,6 @@
--- Each row keeps the queues and the statuses.
+-- Each row, ask and leave keeps the queues and the statuses. A row is one of the five moves of OwnMoves, Join, Link,
+-- HandOver and Release, or leaves all phases alone. A STATUS is written at a node that its own rank uses, or at the
+-- successor's in a hand-over, and so changes what one rank finds.
 use Prim.Native.Nat.{ℕ, suc, pred, _+_, _-_, _^_, _≤_, _<_}
 use mathlib.Core.Path.{_≡_, refl, sym, _∙_, ap, subst}
 use mathlib.Core.Logic.{_⊎_, inl, inr, _≢_, ⊎-elim}
@@ -30,10 +32,12 @@ pub phase-at : (T : Tree) (s : Lock) (p : ℕ) (f : Place) → s .place p ≡ f
     → phase T s p ≡ phase-of f (s .statuses (T .node p (status-level f)))
 phase-at T s p f e = ap (λ g. phase-of g (s .statuses (T .node p (status-level g)))) e
 
+-- the phase of the rank that moved
 pub phase-now : (T : Tree) (s : Lock) (p : ℕ) (f : Place)
     → phase T (go s p f) p ≡ phase-of f (s .statuses (T .node p (status-level f)))
 phase-now T s p f = phase-at T (go s p f) p f (upd-same (s .place) p f)
 
+-- no other rank's phase changes by its going
 pub phase-other : (T : Tree) (s : Lock) (p : ℕ) (f : Place) (q : ℕ) → q ≢ p → phase T (go s p f) q ≡ phase T s q
 phase-other T s p f q a =
     ap (λ g. phase-of g (s .statuses (T .node q (status-level g)))) (upd-other (s .place) p f q a)
@@ -44,16 +48,18 @@ w5-waits i j true b e = cc
 w5-waits i j false true e = cc
 w5-waits i j false false e = cc
 
+-- only W5 waits
 pub only-W5 : (f : Place) (w i : ℕ) → phase-of f w ≡ wait i → f ≡ W5 i
 only-W5 f w i e = grind (arith, tells)
 
--- where a rank stands when a level is done
+-- where a rank stands when it has let level i go: it holds all below, asks nothing, and is in range
 pub done-ok : (top i : ℕ) → On top i → (b : Bool) → eqb i top ≡ b → (w : ℕ)
     → (hold-level top (phase-of (cond b Idle (U8 (suc i))) w) ≡ suc i) × Calm (phase-of (cond b Idle (U8 (suc i))) w)
     × InRange top (phase-of (cond b Idle (U8 (suc i))) w)
 done-ok top i on true e w = (omega (arith, eqb-true i top e), tt, tt)
 done-ok top i on false e w = let ne : i ≢ top = eqb-false i top e in (refl, tt, omega arith)
 
+-- and that place says nothing of statuses
 pub done-sound : (L : Plan) (statuses : ℕ → ℕ) (p i : ℕ) (b : Bool) → Sound L statuses p (cond b Idle (U8 (suc i)))
 done-sound L statuses p i true = tt
 done-sound L statuses p i false = tt
@@ -101,6 +107,7 @@ module _ (L : Plan) (G : Lawful (L .tree)) (small : (q j : ℕ) → L .hand-over
       (rw (upd-same (s .place) p f) here)
       (λ q a. rw (upd-other (s .place) p f q a) (there q a))
 
+  -- W1 clears the NEXT of the own node
   fine-W1 : (p i : ℕ) → s .place p ≡ W1 i → Fine L (row L s p (W1 i))
   fine-W1 p i e =
       let was : phase T s p ≡ fresh i = phase-at T s p (W1 i) e in
@@ -128,6 +135,7 @@ module _ (L : Plan) (G : Lawful (L .tree)) (small : (q j : ℕ) → L .hand-over
   status-own p i u j on on′ ne =
       upd-other (s .statuses) (T .node p i) u (T .node p j) (λ z. ne (G .queue-of p p j i on′ on z .0))
 
+  -- a STATUS written at one level leaves the deeper ones
   counts-own : (p i u : ℕ) → On (T .own-level p) i → Counts L (s .statuses) p (suc i)
       → Counts L (upd (s .statuses) (T .node p i) u) p (suc i)
   counts-own p i u on c j a b = rw (status-own p i u j on (omega arith) (omega arith)) (c j a b)
@@ -165,6 +173,7 @@ module _ (L : Plan) (G : Lawful (L .tree)) (small : (q j : ℕ) → L .hand-over
         sound = sound-go (s .statuses) p g so (λ q a. v .sound q);
       }
 
+  -- W2 makes its STATUS WAIT
   fine-W2 : (p i : ℕ) → s .place p ≡ W2 i → Fine L (row L s p (W2 i))
   fine-W2 p i e =
       let s₁ : Lock = put-status s (T .node p i) WAIT in
@@ -188,6 +197,7 @@ module _ (L : Plan) (G : Lawful (L .tree)) (small : (q j : ℕ) → L .hand-over
             (λ q a. sound-status p i WAIT on lv q a);
       }
 
+  -- W4 links
   fine-W4 : (p i t : ℕ) → s .place p ≡ W4 i t → Fine L (row L s p (W4 i t))
   fine-W4 p i t e =
       let was : phase T s p ≡ link i t = phase-at T s p (W4 i t) e in
@@ -207,6 +217,7 @@ module _ (L : Plan) (G : Lawful (L .tree)) (small : (q j : ℕ) → L .hand-over
         sound = sound-go (s .statuses) p (W5 i) (on, so .1, inl (so .0)) (λ q a. v .sound q);
       }
 
+  -- W5 waits, or goes on as it was told
   fine-W5 : (p i : ℕ) → s .place p ≡ W5 i → Fine L (row L s p (W5 i))
   fine-W5 p i e = by (eqb w WAIT) (leb w 1000) (eqb w (told-status i)) refl refl refl
     where
@@ -264,6 +275,7 @@ module _ (L : Plan) (G : Lawful (L .tree)) (small : (q j : ℕ) → L .hand-over
         sound = sound-go (s₁ .statuses) p g so (λ q a. sound-status p i u on l q a);
       }
 
+  -- W6 writes a count of 0 at the node that it holds
   fine-W6 : (p i : ℕ) → s .place p ≡ W6 i → Fine L (row L s p (W6 i))
   fine-W6 p i e = by (leb 2 i) refl
     where
@@ -297,6 +309,7 @@ module _ (L : Plan) (G : Lawful (L .tree)) (small : (q j : ℕ) → L .hand-over
           tt
           (λ j a b. so′ j (omega (arith, leb-false 2 i z)) b)
 
+  -- W3 joins
   fine-W3 : (p i : ℕ) → s .place p ≡ W3 i → Fine L (row L s p (W3 i))
   fine-W3 p i e = by (eqb (s .tails K) 0) refl
     where
@@ -327,6 +340,7 @@ module _ (L : Plan) (G : Lawful (L .tree)) (small : (q j : ℕ) → L .hand-over
       new = rw (upd-same (s .node-at) K (upd (s .node-at K) (s .next-turn K) X))
           (upd-same (s .node-at K) (s .next-turn K) X)
 
+      -- a move between two places of one phase
       to : (g : Place)
           → ((s .tails K ≡ 0) × (phase T (go s p g) p ≡ hold i))
           ⊎ ((s .tails K ≢ 0) × (phase T (go s p g) p ≡ link i (s .tails K))) → Sound L (s .statuses) p g
@@ -423,6 +437,7 @@ module _ (L : Plan) (G : Lawful (L .tree)) (small : (q j : ℕ) → L .hand-over
   way-up r p i on on′ e j a l =
       G .shared r p j (omega arith) (omega arith) (omega arith) (G .above r p i (suc j) on on′ (omega arith) l e)
 
+  -- U3 hands the whole machine over
   fine-U3 : (p i t n : ℕ) → s .place p ≡ U3 i t n → Fine L (row L s p (U3 i t n))
   fine-U3 p i t n e = gave p 1 i t n was (w5-count i n (omega (arith, so .0, small i)))
       (λ c. (
@@ -458,6 +473,7 @@ module _ (L : Plan) (G : Lawful (L .tree)) (small : (q j : ℕ) → L .hand-over
               (so .1 j a (omega (arith, rg)))
           by (inr (inr z)) = rw (status-own (c .rank) i n j (c .on) (omega arith) (omega arith)) (own c j z b)
 
+  -- U9 hands one level over
   fine-U9 : (p i t : ℕ) → s .place p ≡ U9 i t → Fine L (row L s p (U9 i t))
   fine-U9 p i t e = gave p i i t (told-status i) (phase-at T s p (U9 i t) e)
       (w5-told i (told-status i) (omega (arith, told-large i)) (told-large i .1))
@@ -494,6 +510,7 @@ module _ (L : Plan) (G : Lawful (L .tree)) (small : (q j : ℕ) → L .hand-over
       (phase-of g (s .statuses (T .node p (status-level g)))) (rw e c))
       so
 
+  -- U8 looks for a successor
   fine-U8 : (p i : ℕ) → s .place p ≡ U8 i → Fine L (row L s p (U8 i))
   fine-U8 p i e = by (eqb (s .nexts (T .node p i)) 0) refl
     where
@@ -511,6 +528,7 @@ module _ (L : Plan) (G : Lawful (L .tree)) (small : (q j : ℕ) → L .hand-over
           (refl, eqb-false (s .nexts (T .node p i)) 0 z)
           tt
 
+  -- U10 releases, or looks again
   fine-U10 : (p i : ℕ) → s .place p ≡ U10 i → Fine L (row L s p (U10 i))
   fine-U10 p i e = by (eqb (s .tails K) (T .node p i)) refl
     where
@@ -600,14 +618,17 @@ module _ (L : Plan) (G : Lawful (L .tree)) (small : (q j : ℕ) → L .hand-over
       (λ _. ((λ w. refl), so))
       (λ z. ((λ w. refl), (omega (arith, leb-false i 2 z), omega arith, so)))
 
+  -- where a row over the counters goes next
   after : (p n : ℕ) → Counts L (s .statuses) p 1 → (end : Place) (more : ℕ → Place) → At (hold 1) p end
       → ((k : ℕ) → At (hold 1) p (more k)) → At (hold 1) p (next L s p n end more)
   after p n so end more h m =
       cond-both (ltb (suc n) (L .counters)) (more (suc n)) end (At (hold 1) p) (λ _. m (suc n)) (λ _. h)
 
+  -- a test with two ways, both out of the queues
   either : (p : ℕ) (b : Bool) (f g : Place) → At out p f → At out p g → At out p (cond b f g)
   either p b f g x y = cond-both b f g (At out p) (λ _. x) (λ _. y)
 
+  -- every row
   pub fine-row : (p : ℕ) → On (T .own-level p) 1 → (f : Place) → s .place p ≡ f → Fine L (row L s p f)
   fine-row p o Idle e = v
   fine-row p o (W1 i) e = fine-W1 p i e
@@ -682,7 +703,7 @@ module _ (L : Plan) (G : Lawful (L .tree)) (small : (q j : ℕ) → L .hand-over
   fine-row p o Writer e = v
   fine-row p o Reader e = v
 
-  -- the calls besides a step
+  -- the calls besides a step: an ask to write
   pub fine-ask-write : (p : ℕ) → On (T .own-level p) 1 → s .place p ≡ Idle → Fine L (go s p (W1 (T .own-level p)))
   fine-ask-write p o e =
       let was : phase T s p ≡ out = phase-at T s p Idle e in
@@ -691,9 +712,11 @@ module _ (L : Plan) (G : Lawful (L .tree)) (small : (q j : ℕ) → L .hand-over
       tt
       (λ j a b. absurd (omega arith))
 
+  -- an ask to read
   pub fine-ask-read : (p : ℕ) → s .place p ≡ Idle → Fine L (go s p R1)
   fine-ask-read p e = to out tt p (phase-at T s p Idle e) R1 (s .arrives) (s .departs) ((λ w. refl), tt)
 
+  -- a leave of a writer
   pub fine-leave-write : (p : ℕ) → s .place p ≡ Writer
       → Fine L (go s p (cond (leb (T .own-level p) 1) U4 (U1 (T .own-level p))))
   fine-leave-write p e =
@@ -704,6 +727,7 @@ module _ (L : Plan) (G : Lawful (L .tree)) (small : (q j : ℕ) → L .hand-over
       (λ _. ((λ w. refl), so))
       (λ z. ((λ w. refl), (leb-false (T .own-level p) 1 z, omega arith, so))))
 
+  -- a leave of a reader
   pub fine-leave-read : (p : ℕ) → s .place p ≡ Reader → Fine L (go s p R7)
   fine-leave-read p e = to out tt p (phase-at T s p Reader e) R7 (s .arrives) (s .departs) ((λ w. refl), tt)
 
@@ -713,6 +737,7 @@ module _ (L : Plan) (G : Lawful (L .tree)) (small : (q j : ℕ) → L .hand-over
   one-writer p r on on′ e a b = one-holder T G (view T s) inv p r 1 on on′
       (rw (phase-at T s p Writer a) (omega arith)) (rw (phase-at T s r Writer b) (omega arith)) e
 
+-- at the start
 pub fine-start : (L : Plan) → Fine L fresh-lock
 fine-start L =
     record {

@@ -11,12 +11,12 @@ use Rattle.queues.specs.Table.{Place, Plan, Lock}
 use Rattle.queues.specs.Moves.{Move, Accepted, act, play, Plays}
 use Rattle.queues.proofs.Sums.{total-part}
 
--- by some accepted moves the lock comes to a state with Q
+-- some list of accepted moves leads from the lock to one with the property
 pub data Reach (P : ℕ) (L : Plan) (Q : Lock → Type 0) : Lock → Type 0 where
   here : (s : Lock) → Q s → Reach P L Q s
   move : (s : Lock) (m : Move) → Accepted P L s m → Reach P L Q (act L s m) → Reach P L Q s
 
--- the list of the moves
+-- the moves as a list
 pub as-list : (P : ℕ) (L : Plan) (Q : Lock → Type 0) (s : Lock) → Reach P L Q s
     → (ms : List Move) × Plays P L s ms × Q (play L s ms)
 unfolding play Plays

@@ -1,4 +1,5 @@
--- A release (row U10 when the tail was the own node): the queue had one node, and is empty.
+-- A release (row U10 where TAIL was the own node): TAIL is the last node and the own node is the head, so the queue
+-- had one node, and is empty now.
 use Prim.Native.Nat.{ℕ, suc, pred, _≤_, _<_}
 use mathlib.Core.Path.{_≡_, refl, sym, _∙_, ap, subst}
 use mathlib.Core.Logic.{_⊎_, inl, inr, _≢_}
@@ -9,6 +10,7 @@ use Rattle.queues.specs.Machine.{hold-level, InRange, Waits, Calm, State, Inv,
 use Rattle.queues.proofs.OneHolder.{range-of, one-holder}
 use Rattle.queues.proofs.Cases.{split, calm-asks}
 
+-- the queues with new phases, one head gone and its TAIL 0
 abbrev pub freed : State → (ℕ → Phase) → (ℕ → ℕ) → (ℕ → ℕ) → State
 freed s phases tails head-turn =
     record {
@@ -20,6 +22,7 @@ freed s phases tails head-turn =
       next-turn = s .next-turn;
     }
 
+-- what is asked of a release by rank p at level i
 pub record Frees (T : Tree) (s : State) (p i : ℕ) (phases : ℕ → Phase) (tails head-turn : ℕ → ℕ) : Type 0 where
   pub giver : hold-level (T .own-level p) (phases p) ≡ suc i
   pub calm : Calm (phases p)
@@ -39,12 +42,15 @@ module _ (T : Tree) (G : Lawful T) (s : State) (v : Inv T s) (p i : ℕ) (e : s 
   on-p : On (T .own-level p) i
   on-p = range-of (s .phases p) (T .own-level p) (v .range p) (hold i) e
 
+  -- the rank held from i down
   level-p : hold-level (T .own-level p) (s .phases p) ≡ i
   level-p = ap (hold-level (T .own-level p)) e
 
+  -- nobody else holds more or less
   level-o : (q : ℕ) → q ≢ p → hold-level (T .own-level q) (phases q) ≡ hold-level (T .own-level q) (s .phases q)
   level-o q a = ap (hold-level (T .own-level q)) (c .others q a)
 
+  -- its node was the head
   head-p : Heads T s p i
   head-p = v .heads p i on-p (omega (arith, level-p))
 
@@ -59,33 +65,39 @@ module _ (T : Tree) (G : Lawful T) (s : State) (v : Inv T s) (p i : ℕ) (e : s 
       (sym (v .tail k a (omega arith) (omega arith)) ∙ (was ∙ sym (head-p .is))) in
       omega arith
 
+  -- so the queue is empty
   now-empty : head-turn (T .element p i) ≡ s .next-turn (T .element p i)
   now-empty = c .head-gone ∙ single
 
+  -- no more go than joined
   order′ : (k : ℕ) → head-turn k ≤ s .next-turn k
   order′ = split (T .element p i)
       (λ k. head-turn k ≤ s .next-turn k)
       (omega (arith, now-empty))
       (λ k ne. omega (arith, c .stay k ne, v .order k))
 
+  -- no turn comes back
   head-grows : (k : ℕ) → s .head-turn k ≤ head-turn k
   head-grows = split (T .element p i)
       (λ k. s .head-turn k ≤ head-turn k)
       (omega (arith, c .head-gone))
       (λ k ne. omega (arith, c .stay k ne))
 
+  -- the TAIL of another queue is its last node
   tail′ : (k a : ℕ) → head-turn k ≤ a → suc a ≡ s .next-turn k → tails k ≡ s .node-at k a
   tail′ = split (T .element p i)
       (λ k. (a : ℕ) → head-turn k ≤ a → suc a ≡ s .next-turn k → tails k ≡ s .node-at k a)
       (λ a l z. absurd (omega (arith, now-empty)))
       (λ k ne a l z. rw (c .other-tails k ne) (v .tail k a (omega (arith, head-grows k)) z))
 
+  -- that of an empty one is 0
   empty′ : (k : ℕ) → head-turn k ≡ s .next-turn k → tails k ≡ 0
   empty′ = split (T .element p i)
       (λ k. head-turn k ≡ s .next-turn k → tails k ≡ 0)
       (λ _. c .tail-zero)
       (λ k ne z. c .other-tails k ne ∙ v .empty k (omega (arith, c .stay k ne)))
 
+  -- a head of another queue stays head
   kept : (q j : ℕ) → T .element q j ≢ T .element p i → Heads T s q j → Heads T s′ q j
   kept q j ne o =
       record {
@@ -93,11 +105,13 @@ module _ (T : Tree) (G : Lawful T) (s : State) (v : Inv T s) (p i : ℕ) (e : s 
         is = rw (c .stay (T .element q j) ne) (o .is);
       }
 
+  -- the rank is the head of what it keeps
   heads-p : (j : ℕ) → On (T .own-level p) j → hold-level (T .own-level p) (phases p) ≤ j → Heads T s′ p j
   heads-p j on l = kept p j
       (λ z. let w : j ≡ i = G .level-of p p j i on on-p z in omega (arith, c .giver))
       (v .heads p j on (omega (arith, c .giver, level-p)))
 
+  -- others are heads as before
   heads-o : (q : ℕ) → q ≢ p → (j : ℕ) → On (T .own-level q) j → hold-level (T .own-level q) (phases q) ≤ j
       → Heads T s′ q j
   heads-o q a j on l =
@@ -110,6 +124,7 @@ module _ (T : Tree) (G : Lawful T) (s : State) (v : Inv T s) (p i : ℕ) (e : s 
       (w ∙ ap (T .element p) (sym z))))
       (v .heads q j on l′)
 
+  -- nobody waited in this queue, and elsewhere the turns are as they were
   behind : (q j : ℕ) → Behind T s q j → Behind T s′ q j
   behind q j b =
       record { turn = b .turn; low = low (cases-eq (T .element q j) (T .element p i)); high = b .high; is = b .is }
@@ -121,6 +136,7 @@ module _ (T : Tree) (G : Lawful T) (s : State) (v : Inv T s) (p i : ℕ) (e : s 
           let m : suc (b .turn) < s .next-turn (T .element p i) = rw z at (b .high) in absurd (omega (arith, single))
       low (inr z) = rw (c .stay (T .element q j) z) (b .low)
 
+  -- other ranks find their words as before
   asks-o : (q : ℕ) → (f : Phase) → Asks T s q f → Asks T s′ q f
   unfolding behind
   asks-o q out o = tt
@@ -132,6 +148,7 @@ module _ (T : Tree) (G : Lawful T) (s : State) (v : Inv T s) (p i : ℕ) (e : s 
   asks-o q (hold j) o = tt
   asks-o q (give g j u) o = o
 
+  -- each head of another queue has its holder
   holder-o : (k : ℕ) → k ≢ T .element p i → Holder T s k → Holder T s′ k
   holder-o k ne o = split p
       (λ q.
@@ -171,6 +188,7 @@ module _ (T : Tree) (G : Lawful T) (s : State) (v : Inv T s) (p i : ℕ) (e : s 
             holds = omega (arith, level-o x a);
           }
 
+  -- and all behind it wait
   member-of : (k a : ℕ) → Member T s k (suc a) → Member T s′ k (suc a)
   member-of k a m =
       record {
@@ -187,6 +205,7 @@ module _ (T : Tree) (G : Lawful T) (s : State) (v : Inv T s) (p i : ℕ) (e : s 
             refl;
       }
 
+  -- so the invariant is kept
   pub retired : Inv T s′
   retired =
       record {

@@ -1,4 +1,8 @@
--- The second stage of the way back: writers to idle, while no reader is in or on its way.
+-- The second stage of the way back: writers go to idle, while no reader is in or on its way. Some rank can move that
+-- does not wait. Its number, the moves ahead on the longest way without a repeat, falls by one to three moves of that
+-- rank: W9 may read once more, and then succeeds since the counter is drained; U10 may have to look again, and then
+-- finds its successor linked; where the successor has yet to link itself, that one moves. No other rank's number
+-- changes.
 use Prim.Native.Nat.{ℕ, pred, _+_, _-_, _*_, _^_, _≤_, _<_}
 use mathlib.Core.Path.{_≡_, refl, sym, _∙_, ap, subst}
 use mathlib.Core.Logic.{_⊎_, inl, inr, _≢_, ⊎-elim}
@@ -24,6 +28,7 @@ use Rattle.queues.proofs.Progress.{Able, waits-or, Mover, mover, Follower, fol
 use Rattle.queues.proofs.Reach.{Reach, here, Sum, Lower, descend}
 use Rattle.queues.proofs.FirstStage.{Good, Busy, stage-1, row-other, by-step, by-leave-write, lowers}
 
+-- the phase does not wait
 abbrev NoWait : Phase → Type 0
 NoWait out = Unit {0}
 NoWait (fresh i) = Unit {0}
@@ -34,10 +39,11 @@ NoWait (wait i) = ⊥
 NoWait (hold h) = Unit {0}
 NoWait (give h i t) = Unit {0}
 
+-- from the words to the test
 no-wait : (f : Phase) → ((i : ℕ) → f ≢ wait i) → NoWait f
 no-wait f h = grind (arith, tells)
 
--- the places that may want more than one move, or a leave
+-- inside as writer, W9 and U10: they may want a leave, or more than one move
 abbrev Odd : Place → Type 0
 Odd f = (tag f ≡ 9) ⊎ ((tag f ≡ 19) ⊎ (tag f ≡ 27))
 
@@ -73,12 +79,14 @@ number N C R7 = 0
 number N C Writer = (2 * C + 4 * N + 1)
 number N C Reader = 0
 
+-- a row that neither waits nor repeats lowers the number
 falls : (L : Plan) (s : Lock) (p : ℕ) (f : Place) → 0 < L .counters → On (L .tree .own-level p) 1 → Able L s p f
     → number (L .tree .own-level p) (L .counters) (row L s p f .place p)
     < number (L .tree .own-level p) (L .counters) f
 unfolding upd
 falls L s p f c o a = grind (arith, tells)
 
+-- a writer that does not wait is able, or at one of the three odd places
 able-or : (L : Plan) (s : Lock) (p : ℕ) (f : Place) → ((q j : ℕ) → L .hand-over-limit q j ≤ 1000)
     → InRange (L .tree .own-level p) (phase-of f (s .statuses (L .tree .node p (status-level f))))
     → Sound L (s .statuses) p f → Within (L .counters) f
@@ -86,25 +94,31 @@ able-or : (L : Plan) (s : Lock) (p : ℕ) (f : Place) → ((q j : ℕ) → L .ha
     → 0 < number (L .tree .own-level p) (L .counters) f → Able L s p f ⊎ Odd f
 able-or L s p f c r so w n a = grind (arith, tells)
 
+-- the three odd places
 odd-is : (f : Place) → Odd f → (f ≡ Writer) ⊎ (((k : ℕ) × (n : ℕ) × (f ≡ W9 k n)) ⊎ ((i : ℕ) × (f ≡ U10 i)))
 odd-is f o = grind (arith, tells)
 
+-- such a row makes nobody a reader
 able-quiet : (L : Plan) (s : Lock) (p : ℕ) (f : Place) → Able L s p f → Busy f × (stage-1 (row L s p f .place p) ≡ 0)
 unfolding upd
 able-quiet L s p f a = grind (arith, tells)
 
+-- who holds something has a number above 0
 holds-ahead : (N C : ℕ) (f : Place) (w : ℕ) → Within C f → InRange N (phase-of f w) → hold-level N (phase-of f w) ≤ N
     → On N 1 × (0 < number N C f)
 holds-ahead N C f w a r l = grind (arith, tells)
 
+-- who is about to link itself is at W4
 only-W4 : (f : Place) (w i t : ℕ) → phase-of f w ≡ link i t → f ≡ W4 i t
 only-W4 f w i t e = grind (arith, tells)
 
+-- after the first stage a load is that of a writer at U7, or nothing
 loads : (c : ℕ) (f : Place) (k : ℕ) → stage-1 f ≡ 0
     → (tries (load-of c f) k ≡ 0) × (admits (load-of c f) k ≡ 0)
     × ((clears (load-of c f) k ≡ 0) ⊎ ((j : ℕ) × (n : ℕ) × (f ≡ U7 j n)))
 loads c f k h = grind (arith, tells)
 
+-- a leave lowers the number
 leave-falls : (L : Plan) (p : ℕ) → On (L .tree .own-level p) 1
     → (stage-1 (cond (leb (L .tree .own-level p) 1) U4 (U1 (L .tree .own-level p))) ≡ 0)
     × (number (L .tree .own-level p) (L .counters) (cond (leb (L .tree .own-level p) 1) U4 (U1 (L .tree .own-level p)))
@@ -118,17 +132,19 @@ module _ (P : ℕ) (L : Plan) (g : Apt P L) where
   abbrev C : ℕ
   C = L .counters
 
-  -- what stays true all through the stage: no reader is in, at R2, R6 or R7
+  -- what stays true all through the stage: the invariant, and no reader is inside, at R2, R6 or R7
   abbrev pub Quiet : Lock → Type 0
   Quiet s = Good P L s × ((q : ℕ) → On P q → stage-1 (s .place q) ≡ 0)
 
+  -- the number of a rank in this stage
   abbrev pub stage-2 : ℕ → Place → ℕ
   stage-2 q f = number (T .own-level q) C f
 
+  -- the sum has fallen, and the stage goes on
   abbrev Less : Lock → Lock → Type 0
   Less = Lower P L stage-2 Quiet
 
-  -- the end of a macro of the rank p
+  -- the end of one to three moves of rank p
   ends : (s t : Lock) (p : ℕ) → On P p → Quiet s → Good P L t → ((q : ℕ) → q ≢ p → t .place q ≡ s .place q)
       → stage-1 (t .place p) ≡ 0 → stage-2 p (t .place p) < stage-2 p (s .place p) → Reach P L (Less s) t
   ends s t p on v w e z l = here t (
@@ -136,7 +152,7 @@ module _ (P : ℕ) (L : Plan) (g : Apt P L) where
     lowers P L g stage-2 s t p on e l,
   )
 
-  -- one move
+  -- a row that lowers the number
   one-move : (s : Lock) → Quiet s → (p : ℕ) → On P p → (f : Place) → s .place p ≡ f → Able L s p f
       → Reach P L (Less s) s
   one-move s v p on f e a =
@@ -148,6 +164,7 @@ module _ (P : ℕ) (L : Plan) (g : Apt P L) where
       (d .1)
       (rw e (falls L s p f (omega (arith, g .sensible .homes p)) (g .all p on) a)))
 
+  -- a leave
   one-leave : (s : Lock) → Quiet s → (p : ℕ) → On P p → s .place p ≡ Writer → Reach P L (Less s) s
   one-leave s v p on e =
       let f : Place = cond (leb (T .own-level p) 1) U4 (U1 (T .own-level p)) in

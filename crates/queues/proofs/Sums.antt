@@ -1,4 +1,4 @@
--- Sums over the ranks, and what one rank's change does to them.
+-- Sums over the ranks: they are equal where their parts are, move by what one rank's part moves, and cover each part.
 use Prim.Native.Nat.{ℕ, zero, suc, _+_, _≤_}
 use mathlib.Core.Path.{_≡_, refl, sym, ap}
 use mathlib.Core.Logic.{_≢_, ⊎-elim}
@@ -7,13 +7,14 @@ use Rattle.std.proofs.shelf.Tests.{cases-eq, eq-eqb, ne-eqb}
 use Rattle.queues.specs.Machine.{On}
 use Rattle.queues.specs.Counters.{total, pick}
 
+-- equal parts, equal sums
 pub total-same : (n : ℕ) (f g : ℕ → ℕ) → ((q : ℕ) → 1 ≤ q → q ≤ n → g q ≡ f q) → total n g ≡ total n f
 unfolding total
 total-same zero f g e = refl
 total-same (suc n) f g e =
     omega (arith, total-same n f g (λ q a b. e q a (omega arith)), e (suc n) (omega arith) (omega arith))
 
--- one rank's change
+-- if one rank's part changes, the sum changes by as much
 pub total-swap : (n : ℕ) (f g : ℕ → ℕ) (p : ℕ) → On n p → ((q : ℕ) → q ≢ p → g q ≡ f q)
     → total n g + f p ≡ total n f + g p
 unfolding total
@@ -36,14 +37,17 @@ total-part (suc n) f p on = ⊎-elim
     (λ (z : p ≡ suc n → ⊥). omega (arith, total-part n f p (omega arith)))
     (cases-eq p (suc n))
 
+-- a weight at its own counter
 pub pick-same : (c n : ℕ) → pick c n c ≡ n
 unfolding pick
 pick-same c n = rw (eq-eqb c c refl)
 
+-- and at any other
 pub pick-other : (c n d : ℕ) → c ≢ d → pick c n d ≡ 0
 unfolding pick
 pick-other c n d h = rw (ne-eqb c d h)
 
+-- a sum of nothing
 pub total-zero : (n : ℕ) → total n (λ q. 0) ≡ 0
 unfolding total
 total-zero zero = refl

@@ -1,4 +1,7 @@
--- The third stage of the way back, a lock at rest, and the way back to idle as a whole.
+-- The third stage of the way back: readers at R3 go to idle, one by one. With everyone idle or at R3 all queues are
+-- empty, no write bit stands, and ARRIVE is DEPART. So a reader at R3 comes in and leaves, in four moves; where
+-- ARRIVE has reached the threshold it first takes DEPART out of both words, in four more. Then every rank is idle,
+-- and the words are at rest.
 use Prim.Native.Nat.{ℕ, suc, _-_, _^_, _≤_, _<_}
 use mathlib.Core.Path.{_≡_, refl, _∙_, ap, subst}
 use mathlib.Core.Logic.{_⊎_, inl, _≢_, ⊎-elim}
@@ -23,12 +26,15 @@ use Rattle.queues.proofs.Reach.{Reach, here, as-list, onwards, Sum, Lower, des
 use Rattle.queues.proofs.FirstStage.{Good, stage-1, by-step, by-leave-read, lowers, stage-one}
 use Rattle.queues.proofs.SecondStage.{number, Quiet, stage-2, stage-two}
 
+-- idle, or at R3
 abbrev Still : Place → Type 0
 Still f = (f ≡ Idle) ⊎ (f ≡ R3)
 
+-- what the first two stages leave
 still-place : (N C : ℕ) (f : Place) → Within C f → stage-1 f ≡ 0 → number N C f ≡ 0 → Still f
 still-place N C f w a b = grind (arith, tells)
 
+-- such a rank has no load
 still-none : (c : ℕ) (f : Place) → Still f → load-of c f ≡ none
 still-none c f h = grind (arith, tells)
 
@@ -36,13 +42,15 @@ still-none c f h = grind (arith, tells)
 abbrev stage-3 : Place → ℕ
 stage-3 f = cond (eqb (tag f) 22) 1 0
 
+-- who has a number in this stage is at R3
 waits-R3 : (f : Place) → 0 < stage-3 f → f ≡ R3
 waits-R3 f h = grind (arith, tells)
 
+-- who has none is idle
 still-idle : (f : Place) → Still f → stage-3 f ≡ 0 → f ≡ Idle
 still-idle f h z = grind (arith, tells)
 
--- what is true where every rank is idle or at R3
+-- the words where every rank is idle or at R3
 pub record Calm (L : Plan) (s : Lock) : Type 0 where
   pub tails : (k : ℕ) → s .tails k ≡ 0
   pub counts : (c : ℕ) → c < L .counters → s .arrives c ≡ s .departs c
@@ -52,9 +60,11 @@ module _ (P : ℕ) (L : Plan) (g : Apt P L) where
   abbrev T : Tree
   T = L .tree
 
+  -- the invariant holds, and every rank is idle or at R3
   abbrev pub Resting : Lock → Type 0
   Resting s = Good P L s × ((q : ℕ) → On P q → Still (s .place q))
 
+  -- such ranks hold nothing
   still-phase : (s : Lock) → Resting s → (q : ℕ) → On (T .own-level q) 1
       → hold-level (T .own-level q) (phase T s q) ≡ suc (T .own-level q)
   still-phase s v q o = ⊎-elim
@@ -62,6 +72,7 @@ module _ (P : ℕ) (L : Plan) (g : Apt P L) where
       (λ (e : s .place q ≡ R3). ap (hold-level (T .own-level q)) (phase-at T s q R3 e))
       (v .1 q (g .sensible .ranks q o))
 
+  -- and stand for no bit
   still-gate : (s : Lock) → Resting s → (q c : ℕ) → Marks (gate T s q) c → ⊥
   still-gate s v q c m = ⊎-elim
       (λ (z : gate T s q ≡ shut). subst (λ x. Marks x c) z m)
@@ -70,6 +81,7 @@ module _ (P : ℕ) (L : Plan) (g : Apt P L) where
       (gate-phase (T .own-level q) (s .place q) (s .statuses (T .node q (status-level (s .place q))))
       (v .0 .safe .fine .queues .range q))
 
+  -- so the words are calm
   pub calm : (s : Lock) → Resting s → Calm L s
   calm s v =
       record {
@@ -210,6 +222,7 @@ module _ (P : ℕ) (L : Plan) (g : Apt P L) where
       second w = by-step P L g (Home s p) s₁ w p on R4 (upd-same (s .place) p R4) (omega arith)
           (rw (eq-eqb (s .tails (T .element p 1)) 0 (all .tails (T .element p 1))) third)
 
+  -- one reader goes home, and the sum falls
   one-home : (s : Lock) → Resting s → (p : ℕ) → On P p → 0 < stage-3 (s .place p)
       → Reach P L (Lower P L (λ q. stage-3) Resting s) s
   one-home s v p on h = onwards P L (Home s p) (Lower P L (λ q. stage-3) Resting s) home s
@@ -242,6 +255,7 @@ module _ (P : ℕ) (L : Plan) (g : Apt P L) where
   pub rests : (s : Lock) → Good P L s → ((q : ℕ) → On P q → s .place q ≡ Idle) → AtRest P L s
   rests s v h = let c = calm s (v, λ q on. inl (h q on)) in record { idles = h; tails = c .tails; counts = c .counts }
 
+  -- the three stages one after the other
   pub back : (s : Lock) → Good P L s → Reach P L (AtRest P L) s
   back s v = onwards P L (λ t. Quiet P L g t) (AtRest P L) second s (stage-one P L g s v)
     where

@@ -1,4 +1,6 @@
--- The rows of the one writer that stands for the bits: W7, W8, W9, U5, U6, U7; and a hand-over.
+-- The rows of the one writer that stands for the write bits: W7 sets one, U7 clears one, W8, W9, U5 and W6 at level 1
+-- change none; and a hand-over, by which the successor stands for all of them. All other gates are shut, so the
+-- clauses about bits speak of this rank alone.
 use Prim.Native.Nat.{ℕ, _+_, _*_, _≤_, _<_}
 use mathlib.Core.Path.{_≡_, sym, _∙_, subst}
 use mathlib.Core.Logic.{_≢_}
@@ -9,14 +11,16 @@ use Rattle.queues.specs.Counters.{lowering, Marks, Keeps, Tally, write-bit, Co
 use Rattle.queues.proofs.Cases.{split, split₂}
 use Rattle.queues.proofs.Counters.{Shift, moves, away}
 
-abbrev NotWide : Gate → Type 0
-NotWide shut = ⊥
-NotWide (raising k) = ⊥
-NotWide (checking k) = ⊥
-NotWide (reading k n) = ⊥
-NotWide wide = Unit {0}
-NotWide (lowering k) = ⊥
+-- the gate is wide
+abbrev Wide : Gate → Type 0
+Wide shut = ⊥
+Wide (raising k) = ⊥
+Wide (checking k) = ⊥
+Wide (reading k n) = ⊥
+Wide wide = Unit {0}
+Wide (lowering k) = ⊥
 
+-- what is asked of a row of that writer, at counter k
 pub record Flips (P C : ℕ) (s : Tally) (p k : ℕ) (s′ : Tally) : Type 0 where
   pub shift : Shift s p k (s′ .load) (s′ .arrives) (s′ .departs)
   pub bit-other : (d : ℕ) → d ≢ k → s′ .bit d ≡ s .bit d
@@ -38,9 +42,11 @@ pub record Flips (P C : ℕ) (s : Tally) (p k : ℕ) (s′ : Tally) : Type 0 whe
 module _ (P C limit : ℕ) (s : Tally) (v : Counted P C limit s) (p k : ℕ) (on : On P p) (s′ : Tally)
     (m : Flips P C s p k s′)
   where
+    -- all other gates are shut
     shut-o : (q : ℕ) → q ≢ p → s′ .gate q ≡ shut
     shut-o q a = m .gates q a ∙ m .alone q a
 
+    -- the account of the counter
     here : k < C → Count P limit s′ k
     here l =
         let o = v .each k l in
@@ -54,6 +60,7 @@ module _ (P C limit : ℕ) (s : Tally) (v : Counted P C limit s) (p k : ℕ) (on
           stands = λ z. (p, m .stands k l z);
         }
 
+    -- the others are as they were
     there : (d : ℕ) → d ≢ k → d < C → Count P limit s′ d
     there d ne l =
         let o = v .each d l in
@@ -71,6 +78,7 @@ module _ (P C limit : ℕ) (s : Tally) (v : Counted P C limit s) (p k : ℕ) (on
           stands = λ z. (p, m .stands d l z);
         }
 
+    -- so the invariant is kept
     pub flipped : Counted P C limit s′
     flipped =
         record {
@@ -91,7 +99,7 @@ module _ (P C limit : ℕ) (s : Tally) (v : Counted P C limit s) (p k : ℕ) (on
               (λ q a j n e. absurd (subst (λ g. Marks g j) (sym e ∙ shut-o q a) tt));
         }
 
--- a hand-over of the section: p's bits are r's
+-- a hand-over: what p stood for, r stands for
 pub record Trades (s : Tally) (p r : ℕ) (gate : ℕ → Gate) : Type 0 where
   pub was : s .gate p ≡ wide
   pub alone : (q : ℕ) → q ≢ p → s .gate q ≡ shut
@@ -99,6 +107,7 @@ pub record Trades (s : Tally) (p r : ℕ) (gate : ℕ → Gate) : Type 0 where
   pub takes : gate r ≡ wide
   pub gates : (q : ℕ) → q ≢ p → q ≢ r → gate q ≡ s .gate q
 
+-- and the invariant is kept
 pub traded : (P C limit : ℕ) (s : Tally) → Counted P C limit s → (p r : ℕ) (gate : ℕ → Gate) → Trades s p r gate
     → Counted P C limit (record {
       load = s .load;
@@ -130,6 +139,6 @@ traded P C limit s v p r gate m =
       seen = split₂ p r
           (λ q. (j n : ℕ) → gate q ≡ reading j n → write-bit + s .departs j + total P (λ p. admits (s .load p) j) ≤ n)
           (λ j n e. absurd (subst (λ g. Marks g j) (sym e ∙ m .gives) tt))
-          (λ j n e. absurd (subst NotWide (sym (m .takes) ∙ e) tt))
+          (λ j n e. absurd (subst Wide (sym (m .takes) ∙ e) tt))
           (λ q a b j n e. absurd (subst (λ g. Marks g j) (sym e ∙ (m .gates q a b ∙ m .alone q a)) tt));
     }
