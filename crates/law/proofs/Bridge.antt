@@ -1,4 +1,5 @@
--- How words and records show a state of the abstract machine, and what a lawful plan says of its homes.
+-- How words and records show a lock of the abstract machine, and what a lawful plan says of its homes. An element
+-- goes by its home, so that NEXT, STATUS and TAIL are all words by home; a counter goes by its number.
 use Prim.Native.Nat.{ℕ, _+_, _-_, _%_, _^_, _≤_, _<_}
 use mathlib.Core.Bool.{cond}
 use mathlib.Core.List.{List}
@@ -47,7 +48,7 @@ pub record Geometry (t : Tree) : Type 0 where
   pub few : t .shape .ranks ≤ 1024
   pub limit : t .shape .«reader_threshold» ≤ 1000000
 
--- words and records that show a state of the machine
+-- words and records that show a lock: enough of both, and each is what the lock says
 pub record Shows (t : Tree) (ws : Words) (rs : List Record) (s : Lock) : Type 0 where
   pub ranks : t .shape .ranks ≤ length rs
   pub room : homes t ≤ ws .count
@@ -66,6 +67,7 @@ gives ws h o (Swap w) = ws .word h o
 gives ws h o (Add w) = ws .word h o
 gives ws h o (Cas v w) = ws .word h o
 
+-- and the words after it
 abbrev pub effect : Words → ℕ → ℕ → Operation → Words
 effect ws h o Get = ws
 effect ws h o (Put w) = storing ws h o w
@@ -73,11 +75,12 @@ effect ws h o (Swap w) = storing ws h o w
 effect ws h o (Add w) = storing ws h o ((ws .word h o + w) % 2 ^ 64)
 effect ws h o (Cas v w) = cond (eqb (ws .word h o) v) (storing ws h o w) ws
 
--- where a row of the table goes, whatever it answers
+-- a row of the table goes to place g, whatever it answers
 abbrev pub Goes : Result Next Refusal → Place → Type 0
 Goes o g = (a : Answer) × (o ≡ Ok (record { place = g; answer = a }))
 
--- one step: it is not refused, it answers what the table says, and what it leaves shows the machine's next state
+-- a step that is not refused: it goes and answers as the table says, and what it leaves shows the next lock of the
+-- machine
 pub record Stepped (t : Tree) (s : Lock) (p : ℕ) (f : Place) (o : Outcome) (s′ : Lock) : Type 0 where
   pub given : ℕ
   pub next : Place

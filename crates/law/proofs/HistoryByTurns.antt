@@ -1,4 +1,7 @@
--- The lists of a queue's past are its turns.
+-- The history that the rows of a job tell is that of the turns: joined are all turns, gone those before the head, and
+-- came to hold those up to the head. So those that came are a front part of those that joined, those that stopped are
+-- a front part of those that came, and at most one came that has not stopped.
+-- And what a row that joins, hands over or releases does to both.
 use Prim.Native.Nat.{ℕ, zero, suc, _≤_, _<_, min}
 use mathlib.Core.Path.{_≡_, refl, sym, _∙_, ap, subst}
 use mathlib.Core.Logic.{_≢_, ⊎-elim}
@@ -14,20 +17,23 @@ use Rattle.law.specs.Order.{Front, Ordered}
 use Rattle.queues.proofs.Phases.{upd-same, upd-other}
 use Rattle.queues.proofs.Cases.{split}
 
--- the first n turns
+-- the nodes of the first n turns
 abbrev pub turns : (ℕ → ℕ) → ℕ → List ℕ
 turns f zero = []
 turns f (suc n) = turns f n ++ (f n ∷ [])
 
+-- equal turns, equal lists
 pub turns-same : (f g : ℕ → ℕ) (n : ℕ) → ((a : ℕ) → a < n → g a ≡ f a) → turns g n ≡ turns f n
 turns-same f g zero e = refl
 turns-same f g (suc n) e = ap (λ (l : List ℕ). l ++ (g n ∷ [])) (turns-same f g n (λ a l. e a (omega arith)))
     ∙ ap (λ x. turns f n ++ (x ∷ [])) (e n (omega arith))
 
+-- n turns have n nodes
 pub turns-length : (f : ℕ → ℕ) (n : ℕ) → length (turns f n) ≡ n
 turns-length f zero = refl
 turns-length f (suc n) = length-append (turns f n) (f n ∷ []) ∙ (let z = turns-length f n in omega arith)
 
+-- fewer turns are a front part
 pub turns-front : (f : ℕ → ℕ) (m n : ℕ) → m ≤ n → Front (turns f m) (turns f n)
 turns-front f m zero l = let z : m ≡ 0 = omega arith in ([], subst (λ x. turns f 0 ≡ turns f x ++ []) (sym z) refl)
 turns-front f m (suc n) l = ⊎-elim
@@ -40,12 +46,13 @@ turns-front f m (suc n) l = ⊎-elim
     ))
     (cases-eq m (suc n))
 
--- the past, by turns
+-- the history is that of the turns
 pub record Traces (at : ℕ → ℕ → ℕ) (head-turn next-turn : ℕ → ℕ) (h : History) : Type 0 where
   pub joined : (q : ℕ) → h .joined q ≡ turns (at q) (next-turn q)
   pub came : (q : ℕ) → h .came q ≡ turns (at q) (min (suc (head-turn q)) (next-turn q))
   pub gone : (q : ℕ) → h .gone q ≡ turns (at q) (head-turn q)
 
+-- so it is in order
 pub ordered : (at : ℕ → ℕ → ℕ) (head-turn next-turn : ℕ → ℕ) (h : History) → ((q : ℕ) → head-turn q ≤ next-turn q)
     → Traces at head-turn next-turn h → (q : ℕ) → Ordered h q
 ordered at head-turn next-turn h l t q =
@@ -60,10 +67,11 @@ ordered at head-turn next-turn h l t q =
       single = rw (t .came q, t .gone q) (omega arith);
     }
 
--- one more turn of a queue
+-- one more turn
 add : (f : ℕ → ℕ) (n : ℕ) (l : List ℕ) (x : ℕ) → l ≡ turns f n → f n ≡ x → l ++ (x ∷ []) ≡ turns f (suc n)
 add f n l x e d = ap (λ (y : List ℕ). y ++ (x ∷ [])) e ∙ ap (λ y. turns f n ++ (y ∷ [])) (sym d)
 
+-- the same number of turns
 count-is : (f : ℕ → ℕ) (m n : ℕ) (l : List ℕ) → m ≡ n → l ≡ turns f m → l ≡ turns f n
 count-is f m n l e d = subst (λ k. l ≡ turns f k) e d
 

@@ -1,4 +1,6 @@
--- Under the invariant no step is refused: all fields and homes are in range.
+-- Under the invariant no record is spoiled and no home unknown: each field of a record is in range, since levels are,
+-- counters are, and a home that was read from a word is the node of a rank; and the home that a step reaches is one
+-- of the lock's.
 use Prim.Native.Nat.{ℕ, _≤_}
 use mathlib.Core.Path.{_≡_, sym, _∙_, subst}
 use mathlib.Core.Bool.{true}
@@ -22,14 +24,15 @@ use Rattle.law.proofs.Bridge.{machine-plan, Geometry, Ranged}
 use Rattle.queues.proofs.OneHolder.{asked, occupant, successor}
 use Rattle.queues.proofs.QueueRows.{phase-at}
 
--- a field in range passes the record's test
+-- a number in range passes the test
 from-on : (low high n : ℕ) → low ≤ n → n ≤ high → within low high n ≡ true
 from-on low high n a b = and-from (leb low n) (leb n high) (le-leb low n a) (le-leb n high b)
 
+-- so fields in range pass the test of a record
 pub fits-ranged : (t : Tree) (p : ℕ) (f : Place) → Ranged t p f → fits t p f ≡ true
 fits-ranged t p f r = grind (arith, tells)
 
--- the homes of a rank's operation
+-- the home of an operation is one of the lock's
 abbrev pub Reach : Tree → Option Access → Type 0
 Reach t None = Unit {0}
 Reach t (Some a) = On (homes t) (a .home)
@@ -44,14 +47,17 @@ module _ (t : Tree) (G : Geometry t) (s : Lock) (bit : ℕ → ℕ) (v : Safe (t
   abbrev inv : Inv T (view T s)
   inv = v .fine .queues
 
+  -- a node is a home of the lock
   node-any : (r i : ℕ) → On (T .own-level r) i → On (homes t) (node-home t r i)
   node-any r i o = G .node-in r i o
 
+  -- what a rank is about to hand over to is a home
   next-home : (p h i y : ℕ) → phase T s p ≡ give h i y → On (homes t) y
   next-home p h i y e =
       let z = successor T (G .apt .sensible .tree) (view T s) inv p h i y e in
       subst (On (homes t)) (sym (z .target)) (node-any (z .rank) i (z .on))
 
+  -- what a rank is about to link itself to is a home
   link-home : (p i y : ℕ) → phase T s p ≡ link i y → On (homes t) y
   link-home p i y e =
       let z = asked T (view T s) inv p (link i y) e in
@@ -60,6 +66,7 @@ module _ (t : Tree) (G : Geometry t) (s : Lock) (bit : ℕ → ℕ) (v : Safe (t
       (omega (arith, z .spot .high)) in
       subst (On (homes t)) (sym (z .target ∙ o .is)) (node-any (o .rank) (o .level) (o .on))
 
+  -- the fields of a rank at its place are in range
   pub ranged : (p : ℕ) → On (t .shape .ranks) p → (f : Place) → s .place p ≡ f → Ranged t p f
   ranged p on f e = by f (phase-at T s p f e) (subst (InRange (T .own-level p)) (phase-at T s p f e) (inv .range p))
       (subst (Sound L (s .statuses) p) e (v .fine .sound p)) (subst (Within (counters t)) e (v .within p))
@@ -97,7 +104,7 @@ module _ (t : Tree) (G : Geometry t) (s : Lock) (bit : ℕ → ℕ) (v : Safe (t
       by Writer z r so w = tt
       by Reader z r so w = tt
 
--- so the home of its access is one of the lock's
+-- so the home of its operation is one of the lock's
 pub reaches : (t : Tree) → Geometry t → (p : ℕ) → On (t .shape .ranks) p → (f : Place) → Ranged t p f
     → Reach t (access-of t p f)
 reaches t G p on f r = by f r

@@ -1,4 +1,8 @@
--- Every call of a job keeps the invariant; so after every job exclusion and order hold.
+-- What holds between the calls of a job, and that every call keeps it: words and records show a lock of the machine
+-- that has the invariant; presence, told by the answers, agrees with the places; history, told by the rows, is that
+-- of the turns. A refused call changes nothing, a step is the row of the machine, an ask and a leave send a rank to a
+-- place.
+-- So at the end of every job exclusion and order hold, and no call was refused but by the caller's own doing.
 use Prim.Native.Nat.{ℕ}
 use mathlib.Core.Path.{_≡_, refl, sym, _∙_, ap, subst}
 use mathlib.Core.Logic.{_≢_, ⊎-elim}
@@ -72,33 +76,41 @@ abbrev pub Kept : Tree → Words → List Record → Presence → History → Ca
 Kept t ws rs w h c o s bit = Holds t (o .words) (o .records) (told w c (o .answer))
     (written-down t ws rs h c (o .answer)) s bit × Fair (o .answer)
 
+-- for some lock and some write bits
 abbrev pub Some-kept : Tree → Words → List Record → Presence → History → Call → Outcome → Type 0
 Some-kept t ws rs w h c o = (s : Lock) × (bit : ℕ → ℕ) × Kept t ws rs w h c o s bit
 
--- the tests in front of a call
+-- the two tests in front of a call: both pass
 gates : {A : Type 0} (a b : Bool) (x y z : A) → a ≡ true → b ≡ true → cond a (cond b x y) z ≡ x
 gates a b x y z e d = rw (e, d)
 
+-- the second fails
 shut-gate : {A : Type 0} (a b : Bool) (x y z : A) → a ≡ true → b ≡ false → cond a (cond b x y) z ≡ y
 shut-gate a b x y z e d = rw (e, d)
 
+-- the place of a record that rests
 is-idle : (f : Place) → standing-at f ≡ Resting → f ≡ Idle
 is-idle f e = grind arith
 
+-- that is in as writer
 is-writing : (f : Place) → standing-at f ≡ Writing → f ≡ Writer
 is-writing f e = grind arith
 
+-- that is in as reader
 is-reading : (f : Place) → standing-at f ≡ Reading → f ≡ Reader
 is-reading f e = grind arith
 
+-- where a writer goes when it leaves, it is not inside
 out-of : (b : Bool) (N : ℕ) (r : Role) → Link (cond b (U1 N) U4) r false
 out-of true N r = refl
 out-of false N r = refl
 
+-- nor idle
 exit-off : (b : Bool) (N : ℕ) → cond b (U1 N) U4 ≢ Idle
 exit-off true N z = let y : _≡_ {A = ℕ} 0 1 = cc in omega arith
 exit-off false N z = let y : _≡_ {A = ℕ} 0 1 = cc in omega arith
 
+-- the machine's way out is the lock's
 pub exit-is : (N : ℕ) → cond (leb N 1) U4 (U1 N) ≡ cond (leb 2 N) (U1 N) U4
 exit-is N = grind (arith, tells)
 
@@ -110,20 +122,25 @@ module _ (t : Tree) (G : Geometry t) (ws : Words) (rs : List Record) (w : Presen
   abbrev L : Plan
   L = machine-plan t
 
+  -- a number that passes the test is a rank
   on-of : (p : ℕ) → within 1 P p ≡ true → On P p
   on-of p e =
       let z = and-parts (leb 1 p) (leb p P) e in record { from = leb-true 1 p (z .0); upto = leb-true p P (z .1) }
 
+  -- and a rank passes it
   in-range : (p : ℕ) → On P p → within 1 P p ≡ true
   in-range p on = and-from (leb 1 p) (leb p P) (le-leb 1 p (on .from)) (le-leb p P (on .upto))
 
+  -- there are enough records
   enough : leb P (length rs) ≡ true
   enough = le-leb P (length rs) (k .shows .ranks)
 
+  -- and enough homes
   has-room : roomy t ws rs ≡ true
   has-room =
       and-from (leb P (length rs)) (leb (homes t) (ws .count)) enough (le-leb (homes t) (ws .count) (k .shows .room))
 
+  -- the record of a rank is read back as its place
   shown : (p : ℕ) → On P p → parsed t p (record-at rs p) ≡ Some (s .place p)
   shown p on =
       ap (parsed t p) (k .shows .places p on)
@@ -139,6 +156,7 @@ module _ (t : Tree) (G : Geometry t) (ws : Words) (rs : List Record) (w : Presen
   abbrev next-bit : ℕ → ℕ → ℕ
   next-bit p = bits P L (G .apt .sensible) s bit (k .safe) (s .place p)
 
+  -- a step that is not refused keeps what holds
   step-kept : (p : ℕ) → On P p → (o : Outcome) → Stepped t s p (s .place p) o (row L s p (s .place p))
       → Kept t ws rs w h (Step p) o (row L s p (s .place p)) (next-bit p)
   step-kept p on o z = subst
@@ -197,6 +215,7 @@ module _ (t : Tree) (G : Geometry t) (ws : Words) (rs : List Record) (w : Presen
   stepped-is p on = gates (roomy t ws rs) (within 1 P p) (stepped-from t ws rs p (parsed t p (record-at rs p)))
       (refused ws rs UnknownRank) _ has-room (in-range p on) ∙ ap (stepped-from t ws rs p) (shown p on)
 
+  -- every step does
   kept-step : (p : ℕ) → Some-kept t ws rs w h (Step p) (called t ws rs (Step p))
   kept-step p = by (within 1 P p) refl
     where
@@ -267,6 +286,7 @@ module _ (t : Tree) (G : Geometry t) (ws : Words) (rs : List Record) (w : Presen
   turn-is p on f = gates (leb P (length rs)) (within 1 P p) (turn-from rs f (parsed t p (record-at rs p)))
       (unchanged rs UnknownRank) _ enough (in-range p on) ∙ ap (turn-from rs f) (shown p on)
 
+  -- a call of no rank changes nothing
   no-turn : (p : ℕ) → within 1 P p ≡ false → (f : Place → Turn) → turn-of t rs p f ≡ unchanged rs UnknownRank
   no-turn p e f = shut-gate (leb P (length rs)) (within 1 P p) _ _ _ enough e
 
@@ -295,15 +315,18 @@ module _ (t : Tree) (G : Geometry t) (ws : Words) (rs : List Record) (w : Presen
   was : (p : ℕ) (f : Place) → s .place p ≡ f → Link f (w .role p) (w .inside p)
   was p f e = subst (λ g. Link g (w .role p) (w .inside p)) e (k .link p)
 
+  -- every rank has level 1
   one-of : (p : ℕ) → On P p → On (L .tree .own-level p) 1
   one-of p on = G .apt .all p on
 
+  -- a rank that is not idle is not seen idle
   not-rest : (p : ℕ) (f : Place) → s .place p ≡ f → f ≢ Idle → w .idle p ≡ false
   not-rest p f e ne = ⊎-elim
       (λ (z : w .idle p ≡ true). absurd (ne (sym e ∙ k .rest p z)))
       (λ (z : w .idle p ≡ false). z)
       (cases-bool (w .idle p))
 
+  -- every ask to write
   kept-ask-write : (p : ℕ) → Some-kept t ws rs w h (AskWrite p) (called t ws rs (AskWrite p))
   kept-ask-write p = asks (AskWrite p) p (W1 (own-level t p)) refl
       (λ on e.
@@ -319,6 +342,7 @@ module _ (t : Tree) (G : Geometry t) (ws : Words) (rs : List Record) (w : Presen
       g : Sensible P L
       g = G .apt .sensible
 
+  -- every ask to read
   kept-ask-read : (p : ℕ) → Some-kept t ws rs w h (AskRead p) (called t ws rs (AskRead p))
   kept-ask-read p = asks (AskRead p) p R1 refl
       (λ on e.
@@ -333,7 +357,7 @@ module _ (t : Tree) (G : Geometry t) (ws : Words) (rs : List Record) (w : Presen
       g : Sensible P L
       g = G .apt .sensible
 
-  -- a writer that leaves, and a reader
+  -- a leave of a writer
   leave-writes : (p : ℕ) → On P p → s .place p ≡ Writer
       → Kept t ws rs w h (Leave p) (with-words ws (turned rs p (exit-of t p) Leaving)) (go s p (exit-of t p)) bit
   leave-writes p on e = sent (Leave p) p on (exit-of t p) Leaving
@@ -353,6 +377,7 @@ module _ (t : Tree) (G : Geometry t) (ws : Words) (rs : List Record) (w : Presen
       exit : cond (leb (L .tree .own-level p) 1) U4 (U1 (L .tree .own-level p)) ≡ exit-of t p
       exit = exit-is (own-level t p)
 
+  -- and of a reader
   leave-reads : (p : ℕ) → On P p → s .place p ≡ Reader
       → Kept t ws rs w h (Leave p) (with-words ws (turned rs p R7 Leaving)) (go s p R7) bit
   leave-reads p on e = sent (Leave p) p on R7 Leaving
@@ -367,9 +392,11 @@ module _ (t : Tree) (G : Geometry t) (ws : Words) (rs : List Record) (w : Presen
       g : Sensible P L
       g = G .apt .sensible
 
+  -- a leave is what it does at the place that the record shows
   left-is : (p : ℕ) → On P p → left t rs p ≡ left-at t rs p (standing-at (s .place p))
   left-is p on = turn-is p on (λ q. left-at t rs p (standing-at q))
 
+  -- every leave
   kept-leave : (p : ℕ) → Some-kept t ws rs w h (Leave p) (called t ws rs (Leave p))
   kept-leave p = by (within 1 P p) refl
     where
@@ -388,7 +415,7 @@ module _ (t : Tree) (G : Geometry t) (ws : Words) (rs : List Record) (w : Presen
           at Writing z = (go s p (exit-of t p), bit, leave-writes p (on-of p e) (is-writing (s .place p) z))
           at Reading z = (go s p R7, bit, leave-reads p (on-of p e) (is-reading (s .place p) z))
 
-  -- a leave of a rank that is in is done: with `does-row`, what a chosen list of calls builds on
+  -- a leave of a rank that is in as writer is done
   pub does-leave-write : (p : ℕ) → On P p → s .place p ≡ Writer
       → Kept t ws rs w h (Leave p) (called t ws rs (Leave p)) (go s p (exit-of t p)) bit
   does-leave-write p on e = subst
@@ -396,6 +423,7 @@ module _ (t : Tree) (G : Geometry t) (ws : Words) (rs : List Record) (w : Presen
       (sym (left-is p on ∙ ap (λ f. left-at t rs p (standing-at f)) e))
       (leave-writes p on e)
 
+  -- and so is one of a rank that is in as reader
   pub does-leave-read : (p : ℕ) → On P p → s .place p ≡ Reader
       → Kept t ws rs w h (Leave p) (called t ws rs (Leave p)) (go s p R7) bit
   does-leave-read p on e = subst
@@ -403,6 +431,7 @@ module _ (t : Tree) (G : Geometry t) (ws : Words) (rs : List Record) (w : Presen
       (sym (left-is p on ∙ ap (λ f. left-at t rs p (standing-at f)) e))
       (leave-reads p on e)
 
+  -- every call
   pub kept : (c : Call) → Some-kept t ws rs w h c (called t ws rs c)
   kept (AskWrite p) = kept-ask-write p
   kept (AskRead p) = kept-ask-read p
@@ -441,6 +470,7 @@ holds-ran t G (c ∷ cs) ws rs w h k =
     holds-ran t G cs (o .words) (o .records) (told w c (o .answer)) (written-down t ws rs h c (o .answer))
     (z .0, z .1, z .2 .0)
 
+-- and no call is refused but by the caller's doing
 pub fair-ran : (t : Tree) → Geometry t
     → (calls : List Call) (ws : Words) (rs : List Record) (w : Presence) (h : History) → Some-holds t ws rs w h
     → All-fair (answers t (state ws rs) calls)
@@ -453,6 +483,7 @@ fair-ran t G (c ∷ cs) ws rs w h k =
           (z .0, z .1, z .2 .0),
     )
 
+-- right after layout
 start : (t : Tree) → Geometry t → (ws : Words) (rs : List Record) → laid-answer t ws rs ≡ Ok tt
     → Holds t (laid-words t ws rs) (laid-records t ws rs) nobody nothing fresh-lock (λ c. 0)
 start t G ws rs e =
@@ -468,27 +499,34 @@ start t G ws rs e =
 
 module _ (t : Tree) (G : Geometry t) (ws : Words) (rs : List Record) (e : laid-answer t ws rs ≡ Ok tt)
     (calls : List Call) where
+  -- the state after the calls
   abbrev end : State
   end = ran t (laid t ws rs) calls
 
+  -- who is in after them, by the answers
   abbrev eye : Presence
   eye = seen nobody calls (answers t (laid t ws rs) calls)
 
+  -- the history, by the rows
   abbrev end-history : History
   end-history = history t (laid t ws rs) nothing calls
 
+  -- what holds then
   pub at-end : Some-holds t (end .words) (end .records) eye end-history
   at-end = holds-ran t G calls (laid-words t ws rs) (laid-records t ws rs) nobody nothing
       (fresh-lock, (λ c. 0), start t G ws rs e)
 
+  -- exclusion
   pub end-alone : Alone eye
   end-alone = alone t G (end .words) (end .records) eye end-history (at-end .0) (at-end .1) (at-end .2)
 
+  -- fair refusals
   pub end-fair : All-fair (answers t (laid t ws rs) calls)
   end-fair =
       fair-ran t G calls (laid-words t ws rs) (laid-records t ws rs) nobody nothing
       (fresh-lock, (λ c. 0), start t G ws rs e)
 
+  -- order
   pub end-order : (k : ℕ) → Ordered (history t (laid t ws rs) nothing calls) k
   end-order =
       let k = at-end in

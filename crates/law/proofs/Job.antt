@@ -1,4 +1,5 @@
--- The law, for every plan, all words and records that layout accepts, and every list of calls.
+-- The law, for every plan, all words and records that layout accepts, and every list of calls. After each front part
+-- of the calls the invariant holds; exclusion and order are read off it, and the way back is that of the machine.
 use Prim.Native.Nat.{ℕ}
 use mathlib.Core.Bool.{true}
 use mathlib.Core.List.{List}
@@ -28,6 +29,7 @@ module _ (t : Tree) (G : Geometry t) (ws : Words) (rs : List Record) (e : laid-a
   abbrev start : State
   start = laid t ws rs
 
+  -- from the state after the calls the lock comes back to rest
   way-back : (cs : List Call) → Way-back t start cs
   way-back cs =
       let k = at-end t G ws rs e cs in
@@ -53,6 +55,7 @@ module _ (t : Tree) (G : Geometry t) (ws : Words) (rs : List Record) (e : laid-a
             (at-rest t _ _ s (holds .shows) rest);
       }
 
+  -- all three, after the calls
   lawful-after : (cs : List Call) → Lawful-after t start cs
   lawful-after cs = record {
     exclusion = end-alone t G ws rs e cs;
@@ -60,8 +63,10 @@ module _ (t : Tree) (G : Geometry t) (ws : Words) (rs : List Record) (e : laid-a
     way-back = way-back cs;
   }
 
+  -- and after each front part of them
   pub law : (cs : List Call) → Law t start cs
   law cs = record { always = λ n. lawful-after (take n cs); fair = end-fair t G ws rs e cs }
 
+-- for every plan
 pub every-job : Every-job
 every-job plan ws rs cs e = law (tree-of plan) (every-plan plan) ws rs e cs

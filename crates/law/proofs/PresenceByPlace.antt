@@ -1,4 +1,6 @@
--- What calls and answers tell of the places.
+-- What calls and answers tell is what the places are: a rank is seen inside exactly at the places Writer and Reader,
+-- in the role that it asked for, and idle exactly where it is. Each row of the table keeps this, by one look at where
+-- it goes and what it answers.
 use Prim.Native.Nat.{ℕ}
 use mathlib.Core.Bool.{Bool, true, false, cond}
 use mathlib.Core.Logic.{_⊎_}
@@ -52,6 +54,7 @@ abbrev pub Linked : Result Next Refusal → Role → Bool → Type 0
 Linked (Err e) r b = Unit {0}
 Linked (Ok m) r b = Link (m .place) r (cond (is-entered (m .answer)) true b)
 
+-- every row keeps it
 pub linked : (t : Tree) (p : ℕ) (r : Role) (b : Bool) (f : Place) (w : ℕ) → Link f r b → Linked (next-of t p f w) r b
 linked t p r b f w k = grind (arith, tells)
 
@@ -59,14 +62,16 @@ linked t p r b f w k = grind (arith, tells)
 pub at-writes : (f : Place) (r : Role) (b : Bool) → Link f r b → b ≡ true → r ≡ writer → f ≡ Writer
 at-writes f r b k e d = grind arith
 
+-- who is inside is at one of the two places
 pub at-inside : (f : Place) (r : Role) (b : Bool) → Link f r b → b ≡ true → (f ≡ Writer) ⊎ (f ≡ Reader)
 at-inside f r b k e = grind arith
 
--- who answers free is idle, and who steps was not
+-- who answers free is idle then, and who is seen idle was not stepped
 abbrev pub Rests : Bool → Result Next Refusal → Type 0
 Rests n (Err e) = Unit {0}
 Rests n (Ok m) = cond (is-free (m .answer)) true n ≡ true → m .place ≡ Idle
 
+-- every row does
 pub rested : (t : Tree) (p : ℕ) (n : Bool) (f : Place) (w : ℕ) → (n ≡ true → f ≡ Idle) → Rests n (next-of t p f w)
 rested t p true f w h = rw (h refl) tt
 rested t p false f w h = grind (arith, tells)
@@ -76,5 +81,6 @@ abbrev pub Frees : Bool → Result Next Refusal → Type 0
 Frees n (Err e) = Unit {0}
 Frees n (Ok m) = m .place ≡ Idle → cond (is-free (m .answer)) true n ≡ true
 
+-- every row does
 pub freed : (t : Tree) (p : ℕ) (n : Bool) (f : Place) (w : ℕ) → Frees n (next-of t p f w)
 freed t p n f w = grind (arith, tells)

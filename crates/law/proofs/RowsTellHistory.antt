@@ -1,4 +1,6 @@
--- Each row of a step adds to the past what it does to the turns.
+-- Each row of a step adds to the history what it does to the turns: W3 adds one, and the node comes to hold at once
+-- if the TAIL was 0; U3 and U9 let the head go and the second turn come to hold, since the node that they tell is the
+-- successor's; U10 lets the head go where TAIL was the own node. No other row does anything.
 use Prim.Native.Nat.{ℕ, suc, pred, _<_}
 use mathlib.Core.Path.{_≡_, refl, sym, _∙_, ap, subst}
 use mathlib.Core.Logic.{_≢_, ⊎-elim}
@@ -37,27 +39,32 @@ module _ (t : Tree) (G : Geometry t) (ws : Words) (rs : List Record) (s : Lock) 
   abbrev Traced : Lock → History → Type 0
   Traced s′ h′ = Traces (s′ .node-at) (s′ .head-turn) (s′ .next-turn) h′
 
+  -- the TAIL of a queue with a node is its last turn
   last-is : (k : ℕ) → s .head-turn k < s .next-turn k → s .tails k ≡ s .node-at k (pred (s .next-turn k))
   last-is k l = inv .tail k (pred (s .next-turn k)) (omega arith) (omega arith)
 
+  -- and is not 0
   full : (k : ℕ) → s .head-turn k < s .next-turn k → s .tails k ≢ 0
   full k l e =
       let o =
       occupant T (G .apt .sensible .tree) (view T s) inv k (pred (s .next-turn k)) (omega arith) (omega arith) in
       G .apt .sensible .tree .no-zero (o .rank) (o .level) (o .on) (sym (o .is) ∙ (sym (last-is k l) ∙ e))
 
+  -- a TAIL of 0 is that of an empty queue
   empty : (k : ℕ) → s .tails k ≡ 0 → s .head-turn k ≡ s .next-turn k
   empty k e = ⊎-elim
       (λ (z : s .head-turn k ≡ s .next-turn k). z)
       (λ (z : s .head-turn k ≡ s .next-turn k → ⊥). absurd (full k (omega (arith, inv .order k)) e))
       (cases-eq (s .head-turn k) (s .next-turn k))
 
+  -- any other is not
   some : (k : ℕ) → s .tails k ≢ 0 → s .head-turn k < s .next-turn k
   some k e = ⊎-elim
       (λ (z : s .head-turn k ≡ s .next-turn k). absurd (e (inv .empty k z)))
       (λ (z : s .head-turn k ≡ s .next-turn k → ⊥). omega (arith, inv .order k))
       (cases-eq (s .head-turn k) (s .next-turn k))
 
+  -- the word TAIL is that of the lock
   tail-is : (i : ℕ) → On (own-level t p) i → ws .word (queue-home t p i) 2 ≡ s .tails (queue-home t p i)
   tail-is i o = sh .tails (queue-home t p i) (G .queue-in p i o)
 
@@ -77,6 +84,7 @@ module _ (t : Tree) (G : Geometry t) (ws : Words) (rs : List Record) (s : Lock) 
       traces-pass (s .node-at) (s .head-turn) (s .next-turn) h tr (queue-home t p i) (inv .order (queue-home t p i))
       (node-home t p i) y (n .more) (w .is) (n .is ∙ sym (n .target))
 
+  -- a release, or none
   frees : (i : ℕ) → s .place p ≡ U10 i → Traced (row L s p (U10 i)) (adds t ws p h (U10 i))
   frees i e = subst
       (λ x.
@@ -112,6 +120,7 @@ module _ (t : Tree) (G : Geometry t) (ws : Words) (rs : List Record) (s : Lock) 
           traces-free (s .node-at) (s .head-turn) (s .next-turn) h tr k (inv .order k) (node-home t p i)
           (omega (arith, w .some)) (w .is)
 
+  -- W5 adds nothing
   waits : (i : ℕ) → Traced (row L s p (W5 i)) h
   waits i = by (eqb (s .statuses (node-home t p i)) WAIT) (leb (s .statuses (node-home t p i)) 1000)
       (eqb (s .statuses (node-home t p i)) (told-status i))
@@ -122,6 +131,7 @@ module _ (t : Tree) (G : Geometry t) (ws : Words) (rs : List Record) (s : Lock) 
       by false false true = tr
       by false false false = tr
 
+  -- every row
   pub traced : (f : Place) → s .place p ≡ f → Traced (row L s p f) (adds t ws p h f)
   traced Idle e = tr
   traced (W1 i) e = tr

@@ -1,4 +1,5 @@
--- Right after layout the words and records show the lock in which nothing has happened.
+-- Right after layout the words and records show the lock in which nothing has happened: all words are 0 and all ranks
+-- idle.
 use Prim.Native.Nat.{ℕ, _+_, _-_, _<_}
 use mathlib.Core.Path.{_≡_, refl, sym, _∙_, subst}
 use mathlib.Core.Bool.{Bool, true, false, cond, _&&_}
@@ -23,9 +24,11 @@ use Rattle.queues.specs.Table.{Idle}
 use Rattle.queues.specs.Jobs.{fresh-lock}
 use Rattle.law.proofs.Bridge.{Shows, Geometry}
 
+-- a word that layout has cleared
 zeros : (M h o x : ℕ) → On M h → o < 5 → cond (leb 1 h && ltb h (M + 1) && ltb o 5) 0 x ≡ 0
 zeros M h o x on l = grind (arith, tells)
 
+-- cleared words and records show that lock
 shows-cleared : (t : Tree) → Geometry t → (ws : Words) (rs : List Record) → roomy t ws rs ≡ true
     → Shows t (cleared ws (homes t + 1)) (idled rs (t .shape .ranks)) fresh-lock
 shows-cleared t G ws rs e =
@@ -47,10 +50,12 @@ shows-cleared t G ws rs e =
           zeros (homes t) (counter-home t c) 4 (ws .word (counter-home t c) 4) (G .counter-in c k) (omega arith);
     }
 
+-- layout is accepted only where there is room
 accepted : (b : Bool) → _≡_ {A = Result (Unit {0}) Refusal} (cond b (Ok tt) (Err TooShort)) (Ok tt) → b ≡ true
 accepted true e = refl
 accepted false e = cc
 
+-- so what layout leaves shows it
 pub shows-start : (t : Tree) → Geometry t → (ws : Words) (rs : List Record) → laid-answer t ws rs ≡ Ok tt
     → Shows t (laid-words t ws rs) (laid-records t ws rs) fresh-lock
 shows-start t G ws rs e =

@@ -1,4 +1,6 @@
--- Each step of the lock is the row of the abstract machine.
+-- Each step of the lock is the row of the abstract machine: the operation that the table asks for is not refused,
+-- gives the word that the lock shows, and writes what the row writes; the tests of the table are those of the row.
+-- Sums do not wrap, so adding and taking away are what they are of numbers.
 use Prim.Native.Nat.{ℕ, suc, pred, _+_, _-_, _%_, _^_, _≤_, _<_}
 use mathlib.Core.Path.{_≡_, refl, sym, _∙_, ap, ap₂, subst}
 use mathlib.Core.Logic.{_⊎_, inl, inr, _≢_}
@@ -42,25 +44,30 @@ use Rattle.law.proofs.Writes.{shows-stay, shows-arrive, shows-depart}
 use Rattle.law.proofs.InRange.{ranged, reaches, Reach}
 use Rattle.law.proofs.NoWrap.{small, at-U7, at-R2, at-R6}
 
+-- the counter of a rank
 own-of : (P p x : ℕ) → On P p → x ≡ cond (within 1 P p) x 0
 own-of P p x o = grind (arith, tells)
 
--- a test of the table goes where the law's test goes
+-- a test of the table goes where the row's test goes
 both : (b : Bool) (x y : Result Next Refusal) (g k : Place) → Goes x g → Goes y k → Goes (cond b x y) (cond b g k)
 both true x y g k a c = a
 both false x y g k a c = c
 
+-- the same with two tests that agree
 both′ : (b b′ : Bool) (x y : Result Next Refusal) (g k : Place) → b ≡ b′ → Goes x g → Goes y k
     → Goes (cond b x y) (cond b′ g k)
 both′ b b′ x y g k e m n = subst (λ z. Goes (cond z x y) (cond b′ g k)) (sym e) (both b′ x y g k m n)
 
+-- to the next counter, or to the end
 goes-next : (C k : ℕ) (f : ℕ → Place) (x : Result Next Refusal) (e : Place) → Goes x e
     → Goes (cond (ltb (k + 1) C) (moves (f (k + 1))) x) (cond (ltb (suc k) C) (f (suc k)) e)
 goes-next C k f x e m = rw (add-one k) (both (ltb (suc k) C) (moves (f (suc k))) x (f (suc k)) e (Moved, refl) m)
 
+-- to the next level, or to idle
 goes-done : (N i : ℕ) → i ≤ N → Goes (cond (ltb i N) (moves (U8 (i + 1))) rests) (cond (eqb i N) Idle (U8 (suc i)))
 goes-done N i o = (cond (ltb i N) Moved Free, grind (arith, tells))
 
+-- U2 hands over or looks one level higher
 goes-U2 : (i n y c : ℕ)
     → Goes (cond (not (eqb y 0) && ltb n c) (moves (U3 i y (n + 1))) (cond (leb i 2) (moves U4) (moves (U1 (i - 1)))))
     (cond (eqb y 0) (cond (leb i 2) U4 (U1 (pred i)))
@@ -72,6 +79,7 @@ goes-U2 i n y c = (Moved, rw (add-one n, sub-one i) (by (eqb y 0) (ltb n c) (leb
         ≡ moves (cond a (cond d U4 (U1 (pred i))) (cond b (U3 i y (suc n)) (cond d U4 (U1 (pred i)))))
     by a b d = grind arith
 
+-- U5 hands over or begins to clear
 goes-U5 : (n y c : ℕ)
     → Goes (cond (not (eqb y 0) && ltb n c) (moves (U3 1 y (n + 1))) (moves (U6 0)))
     (cond (eqb y 0) (U6 0) (cond (ltb n c) (U3 1 y (suc n)) (U6 0)))
@@ -82,24 +90,29 @@ goes-U5 n y c = (Moved, rw (add-one n) (by (eqb y 0) (ltb n c)))
         ≡ moves (cond a (U6 0) (cond b (U3 1 y (suc n)) (U6 0)))
     by a b = grind arith
 
--- the three ways of W5
+-- the three ways of W5: it waits
 goes-wait : (t : Tree) (p i w : ℕ) → w ≡ WAIT → Goes (next-of t p (W5 i) w) (W5 i)
 goes-wait t p i w e = (Waiting, rw (eq-eqb w WAIT e))
 
+-- it takes the parent
 goes-told : (t : Tree) (p i w : ℕ) → 1 ≤ i → w ≡ told-status i → Goes (next-of t p (W5 i) w) (W6 i)
 goes-told t p i w o e = (Moved, grind (arith, tells))
 
+-- it enters
 goes-count : (t : Tree) (p i w : ℕ) → w ≤ 1000 → Goes (next-of t p (W5 i) w) Writer
 goes-count t p i w m = (Entered, grind (arith, tells))
 
+-- and the same of the row: it waits
 w5-waits : (a b d : Lock) (w i : ℕ) → w ≡ WAIT
     → cond (eqb w WAIT) a (cond (leb w 1000) b (cond (eqb w (told-status i)) d a)) ≡ a
 w5-waits a b d w i e = rw (eq-eqb w WAIT e)
 
+-- it enters
 w5-counts : (a b d : Lock) (w i : ℕ) → w ≤ 1000
     → cond (eqb w WAIT) a (cond (leb w 1000) b (cond (eqb w (told-status i)) d a)) ≡ b
 w5-counts a b d w i e = rw (ne-eqb w WAIT (omega arith), le-leb w 1000 e)
 
+-- it takes the parent
 w5-told : (a b d : Lock) (w i : ℕ) → w ≡ told-status i
     → cond (eqb w WAIT) a (cond (leb w 1000) b (cond (eqb w (told-status i)) d a)) ≡ d
 w5-told a b d w i e =
@@ -111,7 +124,7 @@ module _ (t : Tree) (G : Geometry t) (ws : Words) (rs : List Record) (s : Lock) 
     abbrev L : Plan
     L = machine-plan t
 
-    -- a step whose access is not refused
+    -- a step whose operation is not refused
     outcome : (f : Place) (at : ℕ) (o : ℕ) (op : Operation) → access-of t p f ≡ Some (access at o op)
         → On (homes t) at → leb o 4 ≡ true → (g : Place) (a : Answer)
         → next-of t p f (gives ws at o op) ≡ Ok (record { place = g; answer = a })
@@ -122,6 +135,7 @@ module _ (t : Tree) (G : Geometry t) (ws : Words) (rs : List Record) (s : Lock) 
         ap (λ x. stepped-to ws (row-words ws x) rs p (row-next t ws p f x)) e
         ∙ ap₂ (λ x y. stepped-to ws x rs p y) (z .1) (ap (followed t p f) (z .0) ∙ n)
 
+    -- it is the row if it leaves what shows the row's lock
     carries : (f : Place) (at o : ℕ) (op : Operation) → access-of t p f ≡ Some (access at o op) → On (homes t) at
         → leb o 4 ≡ true → (w : ℕ) → gives ws at o op ≡ w → (g : Place) → Goes (next-of t p f w) g
         → (s′ : Lock) → s′ .place p ≡ g → ((q : ℕ) → q ≢ p → s′ .place q ≡ s .place q)
@@ -139,7 +153,7 @@ module _ (t : Tree) (G : Geometry t) (ws : Words) (rs : List Record) (s : Lock) 
           shows = subst (λ (y : Outcome). Shows t (y .words) (y .records) s′) (sym z) sh;
         }
 
-    -- and whose row writes words and moves on
+    -- and so is one that writes words and moves on
     carried : (f : Place) (at o : ℕ) (op : Operation) → access-of t p f ≡ Some (access at o op) → On (homes t) at
         → leb o 4 ≡ true → (w : ℕ) → gives ws at o op ≡ w → (g : Place) → Goes (next-of t p f w) g
         → (s₁ : Lock) → s₁ .place ≡ s .place → Shows t (effect ws at o op) rs s₁
@@ -152,6 +166,7 @@ module _ (t : Tree) (G : Geometry t) (ws : Words) (rs : List Record) (s : Lock) 
     abbrev c : ℕ
     c = L .home p
 
+    -- the home of the own counter
     own-is : own-counter-home t p ≡ counter-home t c
     own-is = ap (counter-home t) (own-of (t .shape .ranks) p (own-counter t p) on)
 
@@ -167,6 +182,7 @@ module _ (t : Tree) (G : Geometry t) (ws : Words) (rs : List Record) (s : Lock) 
     abbrev q : ℕ → ℕ
     q i = queue-home t p i
 
+    -- the step at a place is the row
     abbrev Lifts : Place → Type 0
     Lifts f = Stepped t s p f (stepped-from t ws rs p (Some f)) (row L s p f)
 
@@ -181,16 +197,17 @@ module _ (t : Tree) (G : Geometry t) (ws : Words) (rs : List Record) (s : Lock) 
     abbrev NoMore : Place → Type 0
     NoMore f = (standing-at f ≢ UnderWay) × (stepped-from t ws rs p (Some f) ≡ refused ws rs NotUnderWay)
 
-    -- an operation that only reads a word of the lock
+    -- an operation that only reads: STATUS
     reads-status : (f : Place) (i : ℕ) → access-of t p f ≡ Some (access (x i) 1 Get) → On (homes t) (x i) → (g : Place)
         → Goes (next-of t p f (s .statuses (x i))) g → Stepped t s p f (stepped-from t ws rs p (Some f)) (go s p g)
     reads-status f i e at g n = carried f (x i) 1 Get e at refl (s .statuses (x i)) (h .statuses (x i) at) g n s refl h
 
+    -- NEXT
     reads-next : (f : Place) (i : ℕ) → access-of t p f ≡ Some (access (x i) 0 Get) → On (homes t) (x i) → (g : Place)
         → Goes (next-of t p f (s .nexts (x i))) g → Stepped t s p f (stepped-from t ws rs p (Some f)) (go s p g)
     reads-next f i e at g n = carried f (x i) 0 Get e at refl (s .nexts (x i)) (h .nexts (x i) at) g n s refl h
 
-    -- an addition to a counter that does not wrap
+    -- an addition to ARRIVE that does not wrap
     adds-arrive : (f : Place) (k w y : ℕ) → k < counters t
         → access-of t p f ≡ Some (access (counter-home t k) 3 (Add w)) → (s .arrives k + w) % 2 ^ 64 ≡ y → (g : Place)
         → Goes (next-of t p f (s .arrives k)) g
@@ -200,15 +217,18 @@ module _ (t : Tree) (G : Geometry t) (ws : Words) (rs : List Record) (s : Lock) 
         (shows-arrive t ws rs s h (G .counter-one) k ((ws .word (counter-home t k) 3 + w) % 2 ^ 64) y
         (ap (λ z. (z + w) % 2 ^ 64) (h .arrives k l) ∙ m))
 
+    -- DEPART is taken
     swaps-depart : (f : Place) (k : ℕ) → k < counters t → access-of t p f ≡ Some (access (counter-home t k) 4 (Swap 0))
         → (g : Place) → Goes (next-of t p f (s .departs k)) g
         → Stepped t s p f (stepped-from t ws rs p (Some f)) (go (put-depart s k 0) p g)
     swaps-depart f k l e g n = carried f (counter-home t k) 4 (Swap 0) e (G .counter-in k l) refl (s .departs k)
         (h .departs k l) g n (put-depart s k 0) refl (shows-depart t ws rs s h (G .counter-one) k 0 0 refl)
 
+    -- where a level that is done leads
     goes-down : (i : ℕ) → On (own-level t p) i → Goes (level-done t p i) (done L s p i)
     goes-down i o = goes-done (own-level t p) i (o .upto)
 
+    -- W5
     lift-W5 : (i : ℕ) → s .place p ≡ W5 i → Lifts (W5 i)
     lift-W5 i e = by (subst (Sound L (s .statuses) p) e (v .fine .sound p) .2)
       where
@@ -238,6 +258,7 @@ module _ (t : Tree) (G : Geometry t) (ws : Words) (rs : List Record) (s : Lock) 
             moves-on Writer (goes-count t p i (s .statuses (x i)) m)
             (w5-counts s (go s p Writer) (go s p (W6 i)) (s .statuses (x i)) i m)
 
+    -- U10
     lift-U10 : (i : ℕ) → s .place p ≡ U10 i → Lifts (U10 i)
     lift-U10 i e = by (eqb (s .tails (q i)) (x i)) refl
       where

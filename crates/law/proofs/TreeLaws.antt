@@ -1,4 +1,6 @@
--- The laws of a tree, from climbing.
+-- The laws of a tree, from climbing: the element at a level is reached from the own one by parents, so it has that
+-- level and the ranks below it share all above; a node is a rank's own home, or the home of an element one level
+-- deeper, and the two kinds of home never meet.
 use Prim.Native.Nat.{ℕ, suc, _+_, _-_, _≤_, _<_}
 use mathlib.Core.Path.{_≡_, sym, _∙_, ap}
 use mathlib.Core.Logic.{_⊎_, _≢_}
@@ -29,28 +31,34 @@ module _ (P E N : ℕ) (ps : List ℕ) (lev own : ℕ → ℕ) (T : Tree) (h : R
         (climb E N ps lev h (T .own-level p - i) (own p) (u .on p (u .rank p i o))
         (omega (arith, u .level p (u .rank p i o))))
 
+    -- the element at level i has level i
     pub elem-level : (p i : ℕ) → On (T .own-level p) i → lev (T .element p i) ≡ i
     elem-level p i o = omega (arith, elem-on p i o, u .level p (u .rank p i o))
 
+    -- a higher one is reached from a deeper one
     pub elem-up : (p i j : ℕ) → On (T .own-level p) i → On (T .own-level p) j → j ≤ i
         → T .element p j ≡ climbed ps (i - j) (T .element p i)
     elem-up p i j a b l =
         let e : T .own-level p - j ≡ (i - j) + (T .own-level p - i) = omega arith in
         rw (u .element p i a, u .element p j b, e) (above-more ps (i - j) (T .own-level p - i) (own p))
 
+    -- the two kinds of node
     pub node-cases : (p i : ℕ) → On (T .own-level p) i
         → ((i ≡ T .own-level p) × (T .node p i ≡ p))
         ⊎ ((i < T .own-level p) × (T .node p i ≡ P + T .element p (suc i)))
     node-cases p i o = let e = rw add-one at (u .node p i o) in grind (arith, tells)
 
+    -- an element has one level
     pub level-of : (p r i j : ℕ) → On (T .own-level p) i → On (T .own-level r) j → T .element p i ≡ T .element r j
         → i ≡ j
     level-of p r i j a b e = sym (elem-level p i a) ∙ ap lev e ∙ elem-level r j b
 
+    -- ranks that share an element share all above
     pub above : (p r i j : ℕ) → On (T .own-level p) i → On (T .own-level r) i → On (T .own-level p) j → j ≤ i
         → T .element p i ≡ T .element r i → T .element p j ≡ T .element r j
     above p r i j a b c l e = elem-up p i j a c l ∙ ap (climbed ps (i - j)) e ∙ sym (elem-up r i j b (omega arith) l)
 
+    -- a node belongs to one queue
     pub queue-of : (p r i j : ℕ) → On (T .own-level p) i → On (T .own-level r) j → T .node p i ≡ T .node r j
         → (i ≡ j) × (T .element p i ≡ T .element r j)
     queue-of p r i j a b e =
@@ -66,20 +74,24 @@ module _ (P E N : ℕ) (ps : List ℕ) (lev own : ℕ → ℕ) (T : Tree) (h : R
           above p r (suc i) i,
         )
 
+    -- ranks with one node are one, or share the element one level deeper
     pub below : (p r i : ℕ) → On (T .own-level p) i → On (T .own-level r) i → T .node p i ≡ T .node r i
         → (p ≡ r) ⊎ ((i < T .own-level p) × (i < T .own-level r) × (T .element p (suc i) ≡ T .element r (suc i)))
     below p r i a b e = grind
         (arith, node-cases p i a, node-cases r i b, elem-on p (suc i), elem-on r (suc i), u .rank p i a, u .rank r i b)
 
+    -- and the other way round
     pub shared : (p r i : ℕ) → On (T .own-level p) i → i < T .own-level p → i < T .own-level r
         → T .element p (suc i) ≡ T .element r (suc i) → T .node p i ≡ T .node r i
     shared p r i a b c e =
         let f : On (T .own-level r) i = omega arith in
         grind (arith, node-cases p i a, node-cases r i f)
 
+    -- no node is 0
     pub no-zero : (p i : ℕ) → On (T .own-level p) i → T .node p i ≢ 0
     no-zero p i a = grind (arith, node-cases p i a, u .rank p i a, elem-on p (suc i))
 
+    -- so the tree is lawful
     pub lawful : Lawful T
     lawful =
         record {
@@ -91,9 +103,11 @@ module _ (P E N : ℕ) (ps : List ℕ) (lev own : ℕ → ℕ) (T : Tree) (h : R
           no-zero = no-zero;
         }
 
+    -- the own level is between 1 and N
     pub own-level : (p : ℕ) → On P p → On N (T .own-level p)
     own-level p o = omega (arith, u .level p o, h .low (own p) (u .on p o))
 
+    -- and its numbers are in range
     pub sized : Sized P E N T
     sized =
         record {

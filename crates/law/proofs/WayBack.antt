@@ -1,4 +1,5 @@
--- The way back: the machine's moves to idle, done by the lock call by call.
+-- The way back of the machine is a list of calls of the lock: each move that the machine accepts is a call that is
+-- done, after which words and records still show the machine.
 use Prim.Native.Nat.{ℕ}
 use mathlib.Core.List.{List, [], _∷_, _++_}
 use mathlib.Core.Logic.{_⊎_, inl, inr}
@@ -27,10 +28,12 @@ abbrev pub as-call : Move → Call
 as-call (step-move p) = Step p
 as-call (leave-move p) = Leave p
 
+-- a list of them
 abbrev pub as-calls : List Move → List Call
 as-calls [] = []
 as-calls (m ∷ ms) = as-call m ∷ as-calls ms
 
+-- none of them is an ask
 pub no-asks : (ms : List Move) → No-asks (as-calls ms)
 no-asks [] = tt
 no-asks (step-move p ∷ ms) = (tt, no-asks ms)
@@ -42,6 +45,7 @@ pub record Run : Type 0 where
   pub present : Presence
   pub past : History
 
+-- the job after one more move
 abbrev pub goes-on : Tree → Run → Move → Run
 goes-on t b m = record {
   at = after t (b .at) (as-call m);
@@ -54,7 +58,7 @@ goes-on t b m = record {
 abbrev pub Shown : Tree → Run → Lock → Type 0
 Shown t b s = (bit : ℕ → ℕ) × Holds t (b .at .words) (b .at .records) (b .present) (b .past) s bit
 
--- a step that the machine accepts is one of a rank under way
+-- a step that the machine accepts is one of a rank that is under way
 under-way : (L : Plan) (s : Lock) (p : ℕ) (f : Place) → Accepts L s p f → standing-at f ≡ UnderWay
 under-way L s p f a = grind (arith, tells)
 
@@ -106,6 +110,7 @@ pub runs-at : (t : Tree) (ms : List Move) (b : Run) → calls (goes-on t) b ms .
 runs-at t [] b = refl
 runs-at t (m ∷ ms) b = runs-at t ms (goes-on t b m)
 
+-- and the presence
 pub runs-present : (t : Tree) (ms : List Move) (b : Run)
     → calls (goes-on t) b ms .present ≡ seen (b .present) (as-calls ms) (answers t (b .at) (as-calls ms))
 runs-present t [] b = refl
@@ -116,6 +121,7 @@ pub ran-append : (t : Tree) (s : State) (xs ys : List Call) → ran t s (xs ++ y
 ran-append t s [] ys = refl
 ran-append t s (c ∷ cs) ys = ran-append t (after t s c) cs ys
 
+-- and what is seen of them
 pub seen-append : (t : Tree) (s : State) (w : Presence) (xs ys : List Call)
     → seen w (xs ++ ys) (answers t s (xs ++ ys))
     ≡ seen (seen w xs (answers t s xs)) ys (answers t (ran t s xs) ys)

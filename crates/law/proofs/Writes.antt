@@ -1,4 +1,5 @@
--- Writes of words and records, and the lock that they show.
+-- What a write of a word or of a record does to the lock that they show. The words of a home have five offsets, so
+-- one that is written changes one of the lock's functions at one number.
 use Prim.Native.Nat.{ℕ, _+_, _-_, _%_, _^_, _≤_}
 use mathlib.Core.Path.{_≡_, refl, sym, _∙_, ap}
 use mathlib.Core.Bool.{cond}
@@ -29,6 +30,7 @@ use Rattle.queues.proofs.Cases.{split}
 pub resolved : {A : Type 0} (count h o : ℕ) (x : A) (f : Refusal → A) → On count h → o ≤ 4 → refusing count h o f x ≡ x
 resolved count h o x f on l = rw (ne-eqb h 0 (omega arith), le-ltb count h (omega arith), le-ltb 4 o l)
 
+-- so it gives and writes what it says
 pub done-by : (ws : Words) (h o : ℕ) (op : Operation) → On (ws .count) h → o ≤ 4
     → (answered ws h o op ≡ Ok (gives ws h o op)) × (performed ws h o op ≡ effect ws h o op)
 done-by ws h o Get on l = (resolved (ws .count) h o (Ok (ws .word h o)) Err on l, refl)
@@ -46,6 +48,7 @@ done-by ws h o (Cas v w) on l = (
 )
 
 module _ (t : Tree) (ws : Words) (rs : List Record) (s : Lock) (v : Shows t ws rs s) where
+  -- NEXT
   pub shows-next : (h x : ℕ) → Shows t (storing ws h 0 x) rs (put-next s h x)
   unfolding upd
   shows-next h x = record {
@@ -59,6 +62,7 @@ module _ (t : Tree) (ws : Words) (rs : List Record) (s : Lock) (v : Shows t ws r
     departs = λ c l. let e = v .departs c l in grind (arith, tells);
   }
 
+  -- STATUS
   pub shows-status : (h x : ℕ) → Shows t (storing ws h 1 x) rs (put-status s h x)
   unfolding upd
   shows-status h x = record {
@@ -72,6 +76,7 @@ module _ (t : Tree) (ws : Words) (rs : List Record) (s : Lock) (v : Shows t ws r
     departs = λ c l. let e = v .departs c l in grind (arith, tells);
   }
 
+  -- TAIL, by a node that joins
   pub shows-join : (h x : ℕ) → Shows t (storing ws h 2 x) rs (join s h x)
   unfolding upd
   shows-join h x = record {
@@ -85,6 +90,7 @@ module _ (t : Tree) (ws : Words) (rs : List Record) (s : Lock) (v : Shows t ws r
     departs = λ c l. let e = v .departs c l in grind (arith, tells);
   }
 
+  -- TAIL, by a release
   pub shows-free : (h : ℕ) → Shows t (storing ws h 2 0) rs (free s h)
   unfolding upd
   shows-free h = record {
@@ -98,6 +104,7 @@ module _ (t : Tree) (ws : Words) (rs : List Record) (s : Lock) (v : Shows t ws r
     departs = λ c l. let e = v .departs c l in grind (arith, tells);
   }
 
+  -- no word, where a head goes
   pub shows-drop : (h : ℕ) → Shows t ws rs (drop s h)
   shows-drop h =
       record {
@@ -111,6 +118,7 @@ module _ (t : Tree) (ws : Words) (rs : List Record) (s : Lock) (v : Shows t ws r
         departs = v .departs;
       }
 
+  -- a record
   pub shows-go : (p : ℕ) → On (t .shape .ranks) p → (f : Place) → Shows t ws (set rs (p - 1) (recorded f)) (go s p f)
   shows-go p on f =
       record {
@@ -154,6 +162,7 @@ module _ (t : Tree) (ws : Words) (rs : List Record) (s : Lock) (v : Shows t ws r
         departs = v .departs;
       }
 
+  -- ARRIVE of a counter
   pub shows-arrive : ((a b : ℕ) → counter-home t a ≡ counter-home t b → a ≡ b) → (k x y : ℕ) → x ≡ y
       → Shows t (storing ws (counter-home t k) 3 x) rs (put-arrive s k y)
   unfolding upd
@@ -168,6 +177,7 @@ module _ (t : Tree) (ws : Words) (rs : List Record) (s : Lock) (v : Shows t ws r
     departs = λ c l. let e = v .departs c l in grind (arith, tells, one);
   }
 
+  -- DEPART of a counter
   pub shows-depart : ((a b : ℕ) → counter-home t a ≡ counter-home t b → a ≡ b) → (k x y : ℕ) → x ≡ y
       → Shows t (storing ws (counter-home t k) 4 x) rs (put-depart s k y)
   unfolding upd

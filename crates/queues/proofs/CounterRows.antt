@@ -619,7 +619,7 @@ module _ (P : ℕ) (L : Plan) (sensible : Sensible P L) (s : Lock) (bit : ℕ �
       g : gate T s p ≡ raising k
       g = gate-at T s p (W7 k) e
 
-      -- it holds all below
+      -- the writer holds the whole machine
       lv : hold-level (T .own-level p) (phase T s p) ≤ 1
       lv = level-1 p (W7 k) e (λ w. refl)
 
