@@ -38,21 +38,34 @@ machine-plan t = record {
 
 -- what a lawful plan says of its homes
 pub record Geometry (t : Tree) : Type 0 where
+  -- the laws of the tree and of the numbers
   pub apt : Apt (t .shape .ranks) (machine-plan t)
+  -- nodes are homes of the lock
   pub node-in : (p i : ℕ) → On (own-level t p) i → On (homes t) (node-home t p i)
+  -- and so are queues
   pub queue-in : (p i : ℕ) → On (own-level t p) i → On (homes t) (queue-home t p i)
+  -- the queue of level 1 is that of element 1
   pub root : (p : ℕ) → On (t .shape .ranks) p → queue-home t p 1 ≡ element-home t 1
+  -- counters have homes
   pub counter-in : (k : ℕ) → k < counters t → On (homes t) (counter-home t k)
+  -- of their own
   pub counter-one : (a b : ℕ) → counter-home t a ≡ counter-home t b → a ≡ b
+  -- each rank has one of them
   pub own-in : (p : ℕ) → On (t .shape .ranks) p → own-counter t p < counters t
+  -- there are few ranks
   pub few : t .shape .ranks ≤ 1024
+  -- and the reader threshold is small
   pub limit : t .shape .«reader_threshold» ≤ 1000000
 
 -- words and records that show a lock: enough of both, and each is what the lock says
 pub record Shows (t : Tree) (ws : Words) (rs : List Record) (s : Lock) : Type 0 where
+  -- there are records enough
   pub ranks : t .shape .ranks ≤ length rs
+  -- and homes
   pub room : homes t ≤ ws .count
+  -- a record is that of the place
   pub places : (p : ℕ) → On (t .shape .ranks) p → record-at rs p ≡ recorded (s .place p)
+  -- the five words
   pub nexts : (h : ℕ) → On (homes t) h → ws .word h 0 ≡ s .nexts h
   pub statuses : (h : ℕ) → On (homes t) h → ws .word h 1 ≡ s .statuses h
   pub tails : (h : ℕ) → On (homes t) h → ws .word h 2 ≡ s .tails h

@@ -63,12 +63,19 @@ use Rattle.law.proofs.StepsAreRows.{lifted}
 -- what holds between the calls of a job
 pub record Holds (t : Tree) (ws : Words) (rs : List Record) (w : Presence) (h : History) (lock : Lock) (bit : ℕ → ℕ) :
     Type 0 where
+  -- the lock of the machine has the invariant
   pub safe : Safe (t .shape .ranks) (machine-plan t) lock bit
+  -- words and records show it
   pub shows : Shows t ws rs lock
+  -- role and presence agree with the place
   pub link : (p : ℕ) → Link (lock .place p) (w .role p) (w .inside p)
+  -- who is inside is a rank
   pub ranked : (p : ℕ) → w .inside p ≡ true → On (t .shape .ranks) p
+  -- who is seen idle is
   pub rest : (p : ℕ) → w .idle p ≡ true → lock .place p ≡ Idle
+  -- and who is, is seen so
   pub idles : (p : ℕ) → lock .place p ≡ Idle → w .idle p ≡ true
+  -- the history is that of the turns
   pub trace : Traces (lock .node-at) (lock .head-turn) (lock .next-turn) h
 
 -- and after one of them, with the lock that comes next

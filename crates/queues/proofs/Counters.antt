@@ -21,8 +21,11 @@ Local l m c = (d : ℕ) → d ≢ c → (tries m d ≡ tries l d) × (admits m d
 
 -- rank p's load changes, and with it the words of the counter c
 pub record Shift (s : Tally) (p c : ℕ) (load : ℕ → Load) (arrives departs : ℕ → ℕ) : Type 0 where
+  -- no other load changes
   pub others : (q : ℕ) → q ≢ p → load q ≡ s .load q
+  -- the rank's load changes at counter c alone
   pub local : Local (s .load p) (load p) c
+  -- and so do the words
   pub arrive-other : (d : ℕ) → d ≢ c → arrives d ≡ s .arrives d
   pub depart-other : (d : ℕ) → d ≢ c → departs d ≡ s .departs d
 
@@ -49,12 +52,17 @@ shifted s load arrives departs =
 
 -- rows R1 (refused), R2, R5, R6, R7, U6 and a reader's leave: nobody comes in, and what is counted moves or falls
 pub record Drains (s : Tally) (p c : ℕ) (load : ℕ → Load) (arrives departs : ℕ → ℕ) : Type 0 where
+  -- one load and one counter change
   pub shift : Shift s p c load arrives departs
+  -- what leaves ARRIVE leaves DEPART or the load
   pub flow : arrives c + s .departs c + tries (s .load p) c + admits (s .load p) c + clears (s .load p) c
       ≡ s .arrives c + departs c + tries (load p) c + admits (load p) c + clears (load p) c
+  -- what is counted of the admitted does not grow
   pub fall : departs c + admits (load p) c + clears (load p) c
       ≤ s .departs c + admits (s .load p) c + clears (s .load p) c
+  -- nor without what a writer has taken
   pub fall-admits : departs c + admits (load p) c ≤ s .departs c + admits (s .load p) c
+  -- the rank is not inside after it
   pub outside : (d : ℕ) → load p ≢ inside d
 
 module _ (P C limit : ℕ) (s : Tally) (v : Counted P C limit s) (p c : ℕ) (on : On P p) (load : ℕ → Load)
@@ -118,10 +126,15 @@ module _ (P C limit : ℕ) (s : Tally) (v : Counted P C limit s) (p c : ℕ) (on
 
 -- row R1 when it enters: the old word was below TR, so no bit stands
 pub record Enters (limit : ℕ) (s : Tally) (p c : ℕ) (load : ℕ → Load) (arrives : ℕ → ℕ) : Type 0 where
+  -- one load and one counter change
   pub shift : Shift s p c load arrives (s .departs)
+  -- the rank had no load
   pub before : s .load p ≡ none
+  -- it is inside
   pub after : load p ≡ inside c
+  -- ARRIVE counts it
   pub word : arrives c ≡ suc (s .arrives c)
+  -- and was below the threshold
   pub room : s .arrives c < limit
 
 module _ (P C limit : ℕ) (threshold-fits : limit ≤ write-bit) (s : Tally) (v : Counted P C limit s) (p c : ℕ)

@@ -25,12 +25,19 @@ passed s phases head-turn =
 
 -- what is asked of a hand-over from rank p to its successor r
 pub record Passes (T : Tree) (s : State) (p r h i : ℕ) (phases : ℕ → Phase) (head-turn : ℕ → ℕ) : Type 0 where
+  -- the giver keeps what is deeper than i
   pub giver : hold-level (T .own-level p) (phases p) ≡ suc i
+  -- and asks nothing
   pub calm : Calm (phases p)
+  -- at a level of its own
   pub in-range : InRange (T .own-level p) (phases p)
+  -- the successor holds from h down
   pub taker : phases r ≡ hold h
+  -- no other phase changes
   pub others : (q : ℕ) → q ≢ p → q ≢ r → phases q ≡ s .phases q
+  -- the head of this queue goes
   pub head-gone : head-turn (T .element p i) ≡ suc (s .head-turn (T .element p i))
+  -- and of no other
   pub stay : (k : ℕ) → k ≢ T .element p i → head-turn k ≡ s .head-turn k
 
 module _ (T : Tree) (G : Lawful T) (s : State) (v : Inv T s) (p h i t : ℕ) (e : s .phases p ≡ give h i t)

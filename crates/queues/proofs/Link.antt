@@ -13,9 +13,13 @@ use Rattle.queues.proofs.OwnMoves.{prepared}
 
 -- what is asked of a move that links
 pub record Links (T : Tree) (s : State) (p i t : ℕ) (phases : ℕ → Phase) (nexts : ℕ → ℕ) : Type 0 where
+  -- the rank waits
   pub after : phases p ≡ wait i
+  -- no other phase changes
   pub others : (q : ℕ) → q ≢ p → phases q ≡ s .phases q
+  -- NEXT of the node before is the own node
   pub written : nexts t ≡ T .node p i
+  -- and no other is written
   pub words : (y : ℕ) → y ≢ t → nexts y ≡ s .nexts y
 
 module _ (T : Tree) (G : Lawful T) (s : State) (v : Inv T s) (p i t : ℕ) (e : s .phases p ≡ link i t)

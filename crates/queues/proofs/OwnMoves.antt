@@ -32,11 +32,17 @@ pub record Mine (T : Tree) (s : State) (p y : ℕ) : Type 0 where
 
 -- what is asked of such a move
 pub record Prepares (T : Tree) (s : State) (p : ℕ) (phases : ℕ → Phase) (nexts : ℕ → ℕ) : Type 0 where
+  -- the rank holds what it held
   pub levels : hold-level (T .own-level p) (phases p) ≡ hold-level (T .own-level p) (s .phases p)
+  -- at a level of its own
   pub in-range : InRange (T .own-level p) (phases p)
+  -- it does not wait
   pub idle : (j : ℕ) → Waits (s .phases p) j → ⊥
+  -- no other phase changes
   pub others : (q : ℕ) → q ≢ p → phases q ≡ s .phases q
+  -- NEXT is written at most at the node that it is preparing
   pub words : (y : ℕ) → (nexts y ≡ s .nexts y) ⊎ Mine T s p y
+  -- and the rank finds the words as its new phase says
   pub says : Asks T (prepared s phases nexts) p (phases p)
 
 module _ (T : Tree) (G : Lawful T) (s : State) (v : Inv T s) (p : ℕ) (phases : ℕ → Phase) (nexts : ℕ → ℕ)

@@ -24,13 +24,21 @@ freed s phases tails head-turn =
 
 -- what is asked of a release by rank p at level i
 pub record Frees (T : Tree) (s : State) (p i : ℕ) (phases : ℕ → Phase) (tails head-turn : ℕ → ℕ) : Type 0 where
+  -- the rank keeps what is deeper than i
   pub giver : hold-level (T .own-level p) (phases p) ≡ suc i
+  -- and asks nothing
   pub calm : Calm (phases p)
+  -- at a level of its own
   pub in-range : InRange (T .own-level p) (phases p)
+  -- no other phase changes
   pub others : (q : ℕ) → q ≢ p → phases q ≡ s .phases q
+  -- TAIL becomes 0
   pub tail-zero : tails (T .element p i) ≡ 0
+  -- and no other does
   pub other-tails : (k : ℕ) → k ≢ T .element p i → tails k ≡ s .tails k
+  -- the head of this queue goes
   pub head-gone : head-turn (T .element p i) ≡ suc (s .head-turn (T .element p i))
+  -- and of no other
   pub stay : (k : ℕ) → k ≢ T .element p i → head-turn k ≡ s .head-turn k
 
 module _ (T : Tree) (G : Lawful T) (s : State) (v : Inv T s) (p i : ℕ) (e : s .phases p ≡ hold i)

@@ -22,20 +22,31 @@ Wide (lowering k) = ⊥
 
 -- what is asked of a row of that writer, at counter k
 pub record Flips (P C : ℕ) (s : Tally) (p k : ℕ) (s′ : Tally) : Type 0 where
+  -- one load and one counter change
   pub shift : Shift s p k (s′ .load) (s′ .arrives) (s′ .departs)
+  -- no other bit does
   pub bit-other : (d : ℕ) → d ≢ k → s′ .bit d ≡ s .bit d
+  -- a bit stands once
   pub bit-small : s′ .bit k ≤ 1
+  -- ARRIVE changes by the bit, DEPART and the load
   pub flow : s′ .arrives k + write-bit * s .bit k + s .departs k + tries (s .load p) k + admits (s .load p) k
       + clears (s .load p) k
       ≡ s .arrives k + write-bit * s′ .bit k + s′ .departs k + tries (s′ .load p) k + admits (s′ .load p) k
       + clears (s′ .load p) k
+  -- what is counted of the admitted does not grow
   pub fall : s′ .departs k + admits (s′ .load p) k + clears (s′ .load p) k
       ≤ s .departs k + admits (s .load p) k + clears (s .load p) k
+  -- no other gate changes
   pub gates : (q : ℕ) → q ≢ p → s′ .gate q ≡ s .gate q
+  -- all others are shut
   pub alone : (q : ℕ) → q ≢ p → s .gate q ≡ shut
+  -- the rank stands for set bits only
   pub marks : (c : ℕ) → c < C → Marks (s′ .gate p) c → s′ .bit c ≡ 1
+  -- and for all of them
   pub stands : (c : ℕ) → c < C → s′ .bit c ≡ 1 → Marks (s′ .gate p) c
+  -- where it keeps a counter empty nobody is in
   pub keeps : (c : ℕ) → c < C → Keeps (s′ .gate p) c → (q : ℕ) → On P q → s′ .load q ≢ inside c
+  -- what it has read covers all inside
   pub sees : (j n : ℕ) → s′ .gate p ≡ reading j n
       → write-bit + s′ .departs j + total P (λ p. admits (s′ .load p) j) ≤ n
 
@@ -101,10 +112,15 @@ module _ (P C limit : ℕ) (s : Tally) (v : Counted P C limit s) (p k : ℕ) (on
 
 -- a hand-over: what p stood for, r stands for
 pub record Trades (s : Tally) (p r : ℕ) (gate : ℕ → Gate) : Type 0 where
+  -- p stood for all bits
   pub was : s .gate p ≡ wide
+  -- and nobody else for any
   pub alone : (q : ℕ) → q ≢ p → s .gate q ≡ shut
+  -- p stands for none
   pub gives : gate p ≡ shut
+  -- r stands for all
   pub takes : gate r ≡ wide
+  -- no other gate changes
   pub gates : (q : ℕ) → q ≢ p → q ≢ r → gate q ≡ s .gate q
 
 -- and the invariant is kept
