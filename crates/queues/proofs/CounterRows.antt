@@ -962,7 +962,7 @@ module _ (P : ℕ) (L : Plan) (sensible : Sensible P L) (s : Lock) (bit : ℕ �
         gates = gate-o p 1 i t u (U3 i t u) e was;
       })))
 
-  -- U9: nobody stands for a bit
+  -- U9: neither of the two stands for a bit
   count-U9 : (p i t : ℕ) → s .place p ≡ U9 i t → Counted P C (L .reader-threshold) (tally L (row L s p (U9 i t)) bit)
   count-U9 p i t e =
       let was : phase T s p ≡ give i i t = phase-at T s p (U9 i t) e in
