@@ -1,45 +1,39 @@
--- The way back: the machine's moves to idle, done by the lock call by call.
+-- The way back of the machine is a list of calls of the lock: each move that the machine accepts is a call that is
+-- done, after which words and records still show the machine.
 use Prim.Native.Nat.{ℕ}
-use mathlib.Core.Bool.{Bool, true, false, cond}
 use mathlib.Core.List.{List, [], _∷_, _++_}
-use mathlib.Core.Logic.{_⊎_, inl, inr, ⊎-elim}
+use mathlib.Core.Logic.{_⊎_, inl, inr}
 use mathlib.Core.Path.{_≡_, refl, sym, _∙_, ap, subst}
-use lib.Dec.{leb}
 use native.Mathlib.Omega.{arith}
 use Rattle.std.proofs.shelf.Ways.{tells}
-use Rattle.std.specs.declared.result.Result.{Result}
-use Rattle.refusal.specs.declared.Refusal.{Refusal}
-use Rattle.memory.specs.Words.{Words}
 use Rattle.plan.specs.Trees.{Tree, own-level}
 use Rattle.places.specs.Standings.{standing-at}
-use Rattle.places.specs.declared.answer.Answer.{Answer}
 use Rattle.places.specs.declared.place.Standing.the-variants.{UnderWay}
-use Rattle.places.specs.declared.record.Record.{Record}
 use Rattle.lock.specs.Turns.{exit-of}
-use Rattle.queues.specs.Machine.{On}
-use Rattle.queues.specs.Rows.{Place, idle, W1, W2, W3, W4, W5, W6, W7, W8, W9, U1, U2, U3, U4, U5, U6, U7, U8, U9, U10}
-use Rattle.queues.specs.Rows.{R1, R2, R3, R4, R5, R6, R7, writes, reads, Plan, Lock, go, row}
-use Rattle.queues.specs.Way.{Accepted, Accepts, AtRest, In, Leave as leave-move, Move, Step as step-move, act, exit}
-use Rattle.queues.proofs.Home.{Good}
-use Rattle.queues.proofs.Onto.{Oks, back-onto, calls}
-use Rattle.law.specs.Calls.{State, after, answer-to, answers, called, ran, state}
+use Rattle.queues.specs.Table.{Place, Writer, Reader, Plan, Lock, go}
+use Rattle.queues.specs.Moves.{Accepted, Accepts, AtRest, Leave as leave-move, Move, Step as step-move, act, exit}
+use Rattle.queues.proofs.FirstStage.{Good}
+use Rattle.queues.proofs.OntoCalls.{back-onto, calls, in-is}
+use Rattle.law.specs.Calls.{State, after, answer-to, answers, ran}
 use Rattle.law.specs.History.{History, written-down}
 use Rattle.law.specs.Presence.{Presence, seen, told}
 use Rattle.law.specs.WayBack.{No-asks}
 use Rattle.law.specs.declared.call.Call.{Call}
-use Rattle.law.specs.declared.call.Call.the-variants.{AskWrite, AskRead, Step, Leave}
+use Rattle.law.specs.declared.call.Call.the-variants.{Step, Leave}
 use Rattle.law.proofs.Bridge.{Geometry, machine-plan}
-use Rattle.law.proofs.Runs.{Holds, does-leave-read, does-leave-write, does-row, exit-is}
+use Rattle.law.proofs.Invariant.{Holds, does-leave-read, does-leave-write, does-row, exit-is}
 
 -- a move of the machine as a call
 abbrev pub as-call : Move → Call
 as-call (step-move p) = Step p
 as-call (leave-move p) = Leave p
 
+-- a list of them
 abbrev pub as-calls : List Move → List Call
 as-calls [] = []
 as-calls (m ∷ ms) = as-call m ∷ as-calls ms
 
+-- none of them is an ask
 pub no-asks : (ms : List Move) → No-asks (as-calls ms)
 no-asks [] = tt
 no-asks (step-move p ∷ ms) = (tt, no-asks ms)
@@ -51,6 +45,7 @@ pub record Run : Type 0 where
   pub present : Presence
   pub past : History
 
+-- the job after one more move
 abbrev pub goes-on : Tree → Run → Move → Run
 goes-on t b m = record {
   at = after t (b .at) (as-call m);
@@ -63,40 +58,9 @@ goes-on t b m = record {
 abbrev pub Shown : Tree → Run → Lock → Type 0
 Shown t b s = (bit : ℕ → ℕ) × Holds t (b .at .words) (b .at .records) (b .present) (b .past) s bit
 
--- a step that the machine accepts is one of a rank under way
+-- a step that the machine accepts is one of a rank that is under way
 under-way : (L : Plan) (s : Lock) (p : ℕ) (f : Place) → Accepts L s p f → standing-at f ≡ UnderWay
-under-way L s p idle a = absurd a
-under-way L s p writes a = absurd a
-under-way L s p reads a = absurd a
-under-way L s p (W1 i) a = refl
-under-way L s p (W2 i) a = refl
-under-way L s p (W3 i) a = refl
-under-way L s p (W4 i h) a = refl
-under-way L s p (W5 i) a = refl
-under-way L s p (W6 i) a = refl
-under-way L s p (W7 k) a = refl
-under-way L s p (W8 k) a = refl
-under-way L s p (W9 k n) a = refl
-under-way L s p (U1 i) a = refl
-under-way L s p (U2 i n) a = refl
-under-way L s p (U3 i h n) a = refl
-under-way L s p U4 a = refl
-under-way L s p (U5 n) a = refl
-under-way L s p (U6 k) a = refl
-under-way L s p (U7 k n) a = refl
-under-way L s p (U8 i) a = refl
-under-way L s p (U9 i h) a = refl
-under-way L s p (U10 i) a = refl
-under-way L s p R1 a = refl
-under-way L s p R2 a = refl
-under-way L s p R3 a = refl
-under-way L s p R4 a = refl
-under-way L s p R5 a = refl
-under-way L s p (R6 n) a = refl
-under-way L s p R7 a = refl
-
-in-is : (f : Place) → In f → (f ≡ writes) ⊎ (f ≡ reads)
-in-is f h = grind (arith, tells)
+under-way L s p f a = grind (arith, tells)
 
 module _ (t : Tree) (G : Geometry t) where
   abbrev P : ℕ
@@ -108,13 +72,14 @@ module _ (t : Tree) (G : Geometry t) where
   -- each move that the machine accepts is a call that is done
   follows : (b : Run) (s : Lock) (m : Move) → Good P L s → Shown t b s → Accepted P L s m
       → Unit {0} × Shown t (goes-on t b m) (act L s m)
-  follows b s (step-move p) v (bit, k) a =
-      ( tt
-      , ( _
-        , does-row t G (b .at .words) (b .at .records) (b .present) (b .past) s bit k p (a .0)
-          (under-way L s p (s .place p) (a .1)) .0
-        )
-      )
+  follows b s (step-move p) v (bit, k) a = (
+    tt,
+    (
+      _,
+      does-row t G (b .at .words) (b .at .records) (b .present) (b .past) s bit k p (a .0)
+          (under-way L s p (s .place p) (a .1)) .0,
+    ),
+  )
   follows b s (leave-move p) v (bit, k) a = (tt, (bit, by (in-is (s .place p) (a .1))))
     where
       Left : Lock → Type 0
@@ -122,7 +87,7 @@ module _ (t : Tree) (G : Geometry t) where
           Holds t (goes-on t b (leave-move p) .at .words) (goes-on t b (leave-move p) .at .records)
           (goes-on t b (leave-move p) .present) (goes-on t b (leave-move p) .past) s′ bit
 
-      by : (s .place p ≡ writes) ⊎ (s .place p ≡ reads) → Left (go s p (exit L p (s .place p)))
+      by : (s .place p ≡ Writer) ⊎ (s .place p ≡ Reader) → Left (go s p (exit L p (s .place p)))
       by (inl e) =
           let z : exit L p (s .place p) ≡ exit-of t p = ap (exit L p) e ∙ exit-is (own-level t p) in
           subst (λ f. Left (go s p f)) (sym z)
@@ -137,7 +102,7 @@ module _ (t : Tree) (G : Geometry t) where
       → (ms : List Move) × ((s′ : Lock) × AtRest P L s′ × Shown t (calls (goes-on t) b ms) s′)
   returns-to-rest b s bit k =
       let r = back-onto P L (G .apt) Run (goes-on t) (λ _ _. Unit {0}) (Shown t) follows b s
-          (record { bit = bit; safe = k .safe }) (bit, k) in
+      (record { bit = bit; safe = k .safe }) (bit, k) in
       (r .0, (r .2 .0, r .2 .2, r .2 .3))
 
 -- the moves as a list of calls: the state and the presence that they lead to
@@ -145,6 +110,7 @@ pub runs-at : (t : Tree) (ms : List Move) (b : Run) → calls (goes-on t) b ms .
 runs-at t [] b = refl
 runs-at t (m ∷ ms) b = runs-at t ms (goes-on t b m)
 
+-- and the presence
 pub runs-present : (t : Tree) (ms : List Move) (b : Run)
     → calls (goes-on t) b ms .present ≡ seen (b .present) (as-calls ms) (answers t (b .at) (as-calls ms))
 runs-present t [] b = refl
@@ -155,6 +121,7 @@ pub ran-append : (t : Tree) (s : State) (xs ys : List Call) → ran t s (xs ++ y
 ran-append t s [] ys = refl
 ran-append t s (c ∷ cs) ys = ran-append t (after t s c) cs ys
 
+-- and what is seen of them
 pub seen-append : (t : Tree) (s : State) (w : Presence) (xs ys : List Call)
     → seen w (xs ++ ys) (answers t s (xs ++ ys))
     ≡ seen (seen w xs (answers t s xs)) ys (answers t (ran t s xs) ys)
