@@ -20,10 +20,24 @@ pub enum Case {
     Level2Threshold(u16, u8),
     /// Another parent of element 2, and the refusal's number.
     Parent(u16, u8),
+    /// A rank that is alone and asks to write, and which of its steps enters.
+    WriterEnters(u16, u64),
+    /// The same rank after its leave, and which of its steps answers free.
+    WriterFree(u16, u64),
+    /// The same rank when it is idle again, a home, and its tail.
+    TailAfterWriter(u16, u64, u64),
+    /// Ranks 1 and 2 read, rank 1 goes out and asks again: which of its steps enters.
+    ReaderReturns(u64),
+    /// After that a counter, its ARRIVE and its DEPART.
+    CounterAfterReaders(u16, u64, u64),
+    /// Rank 1 leaves as writer at U2 with a successor and this count, and 1 if it hands on.
+    HandsOnAtLevel2(u64, u64),
+    /// The same at U5.
+    HandsOnAtLevel1(u64, u64),
 }
 
 /// The table. Each case holds of the definitions.
-pub fn table() -> [Case; 15]
+pub fn table() -> [Case; 25]
     ensures same { λ r. ⌜ r ≡ cases ⌝ }
     ensures holds { λ _. ⌜ all-hold cases ≡ true ⌝ }
 {
@@ -43,5 +57,15 @@ pub fn table() -> [Case; 15]
         Case::Level2Threshold(0, 2),
         Case::Parent(1, 0),
         Case::Parent(2, 3),
+        Case::WriterEnters(1, 17),
+        Case::WriterFree(1, 14),
+        Case::TailAfterWriter(1, 6, 0),
+        Case::TailAfterWriter(1, 7, 0),
+        Case::ReaderReturns(8),
+        Case::CounterAfterReaders(0, 2, 0),
+        Case::HandsOnAtLevel2(0, 1),
+        Case::HandsOnAtLevel2(1, 0),
+        Case::HandsOnAtLevel1(0, 1),
+        Case::HandsOnAtLevel1(1, 0),
     ]
 }

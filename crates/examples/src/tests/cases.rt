@@ -2,6 +2,12 @@
 
 use crate::cases::Case;
 use crate::cases::table;
+use crate::tests::runs::counter_after_readers;
+use crate::tests::runs::hands_on;
+use crate::tests::runs::reader_returns;
+use crate::tests::runs::tail_after_writer;
+use crate::tests::runs::writer_enters;
+use crate::tests::runs::writer_free;
 use plan::plan::Plan;
 use plan::questions;
 use plan::shape::Shape;
@@ -57,6 +63,17 @@ fn answer(heap: Global, plan: &Plan, case: Case) -> Result<(u64, u64), Fail> {
             number as u64,
         ),
         Case::Parent(parent, number) => (refused(changed(heap, 5, parent, 1)?), number as u64),
+        Case::WriterEnters(rank, step) => (writer_enters(plan, rank), step),
+        Case::WriterFree(rank, step) => (writer_free(plan, rank), step),
+        Case::TailAfterWriter(rank, home, tail) => (tail_after_writer(plan, rank, home)?, tail),
+        Case::ReaderReturns(step) => (reader_returns(plan), step),
+        Case::CounterAfterReaders(counter, arrive, depart) => {
+            let (arrived, departed) = counter_after_readers(plan, counter)?;
+            check_eq(departed, depart)?;
+            (arrived, arrive)
+        }
+        Case::HandsOnAtLevel2(count, hands) => (hands_on(plan, 11, 2, count)?, hands),
+        Case::HandsOnAtLevel1(count, hands) => (hands_on(plan, 14, 0, count)?, hands),
     };
     Ok(both)
 }
