@@ -1,8 +1,9 @@
--- The law, for every plan, all words and records that layout accepts, and every list of calls.
+-- The law, for every plan, all words and records that layout accepts, and every list of calls. After each front part
+-- of the calls the invariant holds; exclusion and order are read off it, and the way back is that of the machine.
 use Prim.Native.Nat.{ℕ}
 use mathlib.Core.Bool.{true}
-use mathlib.Core.List.{List, _++_}
-use mathlib.Core.Path.{_≡_, sym, _∙_, ap, subst}
+use mathlib.Core.List.{List}
+use mathlib.Core.Path.{_≡_, sym, _∙_, subst}
 use lib.ListN.{take}
 use Rattle.std.specs.declared.result.Result.the-variants.{Ok}
 use Rattle.memory.specs.Words.{Words}
@@ -17,16 +18,18 @@ use Rattle.law.specs.Presence.{Presence, nobody, seen}
 use Rattle.law.specs.Rest.{At-rest}
 use Rattle.law.specs.WayBack.{Way-back}
 use Rattle.law.specs.declared.call.Call.{Call}
-use Rattle.law.proofs.Back.{Run, as-calls, goes-on, no-asks, ran-append, returns-to-rest, runs-at, runs-present, seen-append}
+use Rattle.law.proofs.WayBack.{Run, as-calls, no-asks, ran-append, returns-to-rest, runs-at, runs-present}
+use Rattle.law.proofs.WayBack.{seen-append}
 use Rattle.law.proofs.Bridge.{Geometry}
-use Rattle.law.proofs.Planned.{every-plan}
+use Rattle.law.proofs.PlanGeometry.{every-plan}
 use Rattle.law.proofs.Rest.{at-rest}
-use Rattle.law.proofs.Runs.{at-end, end-alone, end-fair, end-order}
+use Rattle.law.proofs.Invariant.{at-end, end-alone, end-fair, end-order}
 
 module _ (t : Tree) (G : Geometry t) (ws : Words) (rs : List Record) (e : laid-answer t ws rs ≡ Ok tt) where
   abbrev start : State
   start = laid t ws rs
 
+  -- from the state after the calls the lock comes back to rest
   way-back : (cs : List Call) → Way-back t start cs
   way-back cs =
       let k = at-end t G ws rs e cs in
@@ -49,9 +52,10 @@ module _ (t : Tree) (G : Geometry t) (ws : Words) (rs : List Record) (e : laid-a
         idle = λ p on. subst (λ (w : Presence). w .idle p ≡ true) present-is (idle-then p on);
         rest =
             subst (λ (x : State). At-rest t (x .words)) state-is
-            (at-rest t G s (r .1 .2 .0) (holds .safe) (rest .idles) _ _ (holds .shows));
+            (at-rest t _ _ s (holds .shows) rest);
       }
 
+  -- all three, after the calls
   lawful-after : (cs : List Call) → Lawful-after t start cs
   lawful-after cs = record {
     exclusion = end-alone t G ws rs e cs;
@@ -59,8 +63,10 @@ module _ (t : Tree) (G : Geometry t) (ws : Words) (rs : List Record) (e : laid-a
     way-back = way-back cs;
   }
 
+  -- and after each front part of them
   pub law : (cs : List Call) → Law t start cs
   law cs = record { always = λ n. lawful-after (take n cs); fair = end-fair t G ws rs e cs }
 
+-- for every plan
 pub every-job : Every-job
 every-job plan ws rs cs e = law (tree-of plan) (every-plan plan) ws rs e cs

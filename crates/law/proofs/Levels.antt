@@ -1,7 +1,7 @@
--- Climbing from an element: its level goes down by one at each step.
-use Prim.Native.Nat.{ℕ, zero, suc, _+_, _-_, _≤_, _<_}
-use mathlib.Core.Path.{_≡_, refl, sym, _∙_, ap, subst}
-use mathlib.Core.Bool.{Bool, true, false, cond}
+-- Climbing from an element to its parent: the level goes down by one at each step, so an element of level l reaches
+-- the root in l − 1 steps, and only the root has level 1.
+use Prim.Native.Nat.{ℕ, zero, suc, _+_, _≤_, _<_}
+use mathlib.Core.Path.{_≡_, refl}
 use mathlib.Core.List.{List}
 use native.Mathlib.Omega.{arith}
 use native.Mathlib.Nat.{add-suc, add-zero}
@@ -15,7 +15,9 @@ pub stable : (ps : List ℕ) (f k : ℕ) → level-in f ps k < f → level-in (s
 stable ps zero k h = absurd (omega arith)
 stable ps (suc f) k h = let ih = stable ps f (parent ps k) in grind (arith, tells)
 
-pub level-up : (ps : List ℕ) (f k : ℕ) → level-in f ps k < f → 2 ≤ k → level-in f ps k ≡ suc (level-in f ps (parent ps k))
+-- an element above 1 lies one level deeper than its parent
+pub level-up : (ps : List ℕ) (f k : ℕ) → level-in f ps k < f → 2 ≤ k
+    → level-in f ps k ≡ suc (level-in f ps (parent ps k))
 level-up ps f k h m = let e = stable ps f k h in grind (arith, tells)
 
 -- an element's climb in two parts
@@ -42,6 +44,7 @@ by-climbing E N f ps n l a b =
       low = λ k o. grind (arith, tells, b k);
     }
 
+-- u lies d levels above k
 pub record Above (E : ℕ) (lev : ℕ → ℕ) (d k u : ℕ) : Type 0 where
   pub on : On E u
   pub level : lev u + d ≡ lev k

@@ -5,15 +5,15 @@ use Rattle.queues.specs.Machine.{On, Tree}
 
 -- P ranks, E elements, N levels
 pub record Sized (P E N : ℕ) (T : Tree) : Type 0 where
-  pub deep : (p : ℕ) → T .top p ≤ N
-  pub rank : (p i : ℕ) → On (T .top p) i → On P p
-  pub none : (p : ℕ) → (On P p → ⊥) → T .top p ≡ 0
-  pub some : (p : ℕ) → On P p → 1 ≤ T .top p
-  pub root : (p : ℕ) → On (T .top p) 1 → T .elem p 1 ≡ 1
-  pub elem : (p i : ℕ) → On (T .top p) i → On E (T .elem p i)
-  pub node : (p i : ℕ) → On (T .top p) i → On (P + E) (T .node p i)
-  pub home : (p : ℕ) → On P p → T .node p (T .top p) ≡ p
-  pub between : (p i : ℕ) → On (T .top p) i → i < T .top p → T .node p i ≡ P + T .elem p (suc i)
+  pub deep : (p : ℕ) → T .own-level p ≤ N
+  pub rank : (p i : ℕ) → On (T .own-level p) i → On P p
+  pub none : (p : ℕ) → (On P p → ⊥) → T .own-level p ≡ 0
+  pub some : (p : ℕ) → On P p → 1 ≤ T .own-level p
+  pub root : (p : ℕ) → On (T .own-level p) 1 → T .element p 1 ≡ 1
+  pub element : (p i : ℕ) → On (T .own-level p) i → On E (T .element p i)
+  pub node : (p i : ℕ) → On (T .own-level p) i → On (P + E) (T .node p i)
+  pub home : (p : ℕ) → On P p → T .node p (T .own-level p) ≡ p
+  pub between : (p i : ℕ) → On (T .own-level p) i → i < T .own-level p → T .node p i ≡ P + T .element p (suc i)
 
 -- and of the counters: how many, the counter of each rank, and the home of each
 pub record Counted (P count : ℕ) (mine place : ℕ → ℕ) : Type 0 where

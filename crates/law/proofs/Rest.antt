@@ -1,56 +1,20 @@
--- When every rank is idle, the queues are empty and the counters agree.
-use Prim.Native.Nat.{ℕ, suc, _+_, _-_, _≤_, _<_}
-use mathlib.Core.Path.{_≡_, refl, sym, _∙_, ap, subst}
-use mathlib.Core.Logic.{_⊎_, inl, inr, _≢_, ⊎-elim}
+-- A lock at rest, by its words: they show the machine at rest, where no queue has a tail and the counters agree.
+use Prim.Native.Nat.{_+_}
 use mathlib.Core.List.{List}
+use mathlib.Core.Path.{sym, _∙_}
 use native.Mathlib.Omega.{arith}
-use Rattle.std.specs.declared.result.Result.the-variants.{Ok, Err}
-use Rattle.std.proofs.shelf.Tests.{cases-eq}
 use Rattle.memory.specs.Words.{Words}
-use Rattle.plan.specs.Trees.{Tree, counters, counter-home, element-home}
+use Rattle.plan.specs.Trees.{Tree}
 use Rattle.places.specs.declared.record.Record.{Record}
-use Rattle.queues.specs.Machine.{Tree as Machine-tree, On, Inv, out, level}
-use Rattle.queues.specs.Counters.{total, Load, tries, clears, Count, Marks, shut}
-use Rattle.queues.specs.Counters
-use Rattle.queues.specs.Rows.{Place, idle, Plan, Lock, view, phase}
-use Rattle.queues.specs.Whole.{Safe, loadOf, gate, tally}
-use Rattle.law.proofs.Bridge.{machine-plan, Geometry, Shows}
+use Rattle.queues.specs.Moves.{AtRest}
+use Rattle.queues.specs.Table.{Lock}
 use Rattle.law.specs.Rest.{At-rest}
-use Rattle.queues.proofs.Sum.{total-same, total-zero}
-use Rattle.queues.proofs.Steps.{phase-at}
-use Rattle.queues.proofs.Whole.{gate-at, gate-phase}
+use Rattle.law.proofs.Bridge.{Shows, machine-plan}
 
-module _ (t : Tree) (G : Geometry t) (s : Lock) (bit : ℕ → ℕ) (v : Safe (t .shape .ranks) (machine-plan t) s bit) (all : (p : ℕ) → On (t .shape .ranks) p → s .place p ≡ idle) where
-  abbrev P : ℕ
-  P = t .shape .ranks
-
-  abbrev T : Machine-tree
-  T = machine-plan t .tree
-
-  idle-at : (p i : ℕ) → On (T .top p) i → s .place p ≡ idle
-  idle-at p i o = all p (G .apt .sensible .ranks p (omega arith))
-
-  no-tail : (k : ℕ) → s .tl k ≡ 0
-  no-tail k = ⊎-elim (λ (z : s .lo k ≡ s .hi k). v .fine .queues .empty k z) (λ (z : s .lo k ≡ s .hi k → ⊥). let h = v .fine .queues .holder k (omega (arith, v .fine .queues .order k)) in let e = idle-at (h .rank) (h .lvl) (h .on) in let y : level (T .top (h .rank)) (phase T s (h .rank)) ≡ suc (T .top (h .rank)) = ap (level (T .top (h .rank))) (phase-at T s (h .rank) idle e) in absurd (omega (arith, h .on, h .holds))) (cases-eq (s .lo k) (s .hi k))
-
-  closed : (p c : ℕ) → Marks (gate T s p) c → ⊥
-  closed p c m = ⊎-elim (λ (z : gate T s p ≡ shut). subst (λ x. Marks x c) z m) (λ (z : (level (T .top p) (phase T s p) ≡ 1) × On (T .top p) 1). subst (λ x. Marks x c) (gate-at T s p idle (idle-at p 1 (z .1))) m) (gate-phase (T .top p) (s .place p) _ (v .fine .queues .range p))
-
-  load-of : (p : ℕ) → 1 ≤ p → p ≤ P → loadOf (machine-plan t .home p) (s .place p) ≡ Counters.none
-  load-of p a b = ap (loadOf (machine-plan t .home p)) (all p (omega arith))
-
-  zero-sum : (f : Load → ℕ → ℕ) (c : ℕ) → f Counters.none c ≡ 0 → total P (λ p. f (loadOf (machine-plan t .home p) (s .place p)) c) ≡ 0
-  zero-sum f c e = total-same P (λ _. 0) (λ p. f (loadOf (machine-plan t .home p) (s .place p)) c) (λ q a b. ap (λ l. f l c) (load-of q a b) ∙ e) ∙ total-zero P
-
-  agree : (c : ℕ) → c < counters t → s .ar c ≡ s .de c
-  agree c l =
-      let w : Count P (t .shape .«reader_threshold») (tally (machine-plan t) s bit) c = v .counted .each c l in
-      let b : bit c ≢ 1 = λ z. let y = w .stands z in closed (y .0) c (y .1) in
-      let x = zero-sum tries c refl in
-      let y = zero-sum Counters.reads c refl in
-      let z = zero-sum clears c refl in
-      omega (arith, w .sum, w .bits)
-
-  pub at-rest : (ws : Words) (rs : List Record) → Shows t ws rs s → At-rest t ws
-  at-rest ws rs h = record { tails = λ k o. h .tails (P + k) (omega arith) ∙ no-tail (P + k); counts = λ c l. h .arrives c l ∙ (agree c l ∙ sym (h .departs c l)) }
-
+-- words that show the machine at rest are at rest
+pub at-rest : (t : Tree) (ws : Words) (rs : List Record) (s : Lock) → Shows t ws rs s
+    → AtRest (t .shape .ranks) (machine-plan t) s → At-rest t ws
+at-rest t ws rs s h r = record {
+  tails = λ k o. let e = h .tails (t .shape .ranks + k) (omega arith) in e ∙ r .tails (t .shape .ranks + k);
+  counts = λ c l. h .arrives c l ∙ (r .counts c l ∙ sym (h .departs c l));
+}

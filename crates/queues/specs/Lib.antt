@@ -1,6 +1,6 @@
 pub mod Machine
 pub mod Counters
-pub mod Rows
-pub mod Whole
-pub mod Claim
-pub mod Way
+pub mod Table
+pub mod Invariant
+pub mod Jobs
+pub mod Moves

@@ -1,6 +1,6 @@
 //! The tree of queues and the counters as an abstract machine: its invariant, exclusion, and the way back to idle.
-ghost use Rattle.queues.specs.Claim.{Exclusion};
-ghost use Rattle.queues.specs.Way.{WayBack};
+ghost use Rattle.queues.specs.Jobs.{Exclusion};
+ghost use Rattle.queues.specs.Moves.{WayBack};
 
 /// After every job of the machine a writer that is in is alone.
 pub fn exclusion_stands() -> u8

@@ -1,5 +1,5 @@
 -- The lines of a run: one for each call, and one for the fault that ends the order, if any.
-use Prim.Native.Nat.{ℕ}
+use Prim.Native.Nat.{ℕ, _≤_}
 use mathlib.Core.Bool.{true}
 use mathlib.Core.List.{List, [], _∷_, _++_}
 use mathlib.Core.Path.{_≡_}
@@ -33,6 +33,11 @@ reply-lines (c ∷ cs) (r ∷ rs) = reply-line c r ++ reply-lines cs rs
 abbrev pub fault-line : Option Fault → List ℕ
 fault-line None = []
 fault-line (Some f) = bad-line f
+
+-- the offset of a fault, if there is one, is one that an order can have
+abbrev pub Near-end : Option Fault → Type 0
+Near-end None = Unit {0}
+Near-end (Some f) = f .offset ≤ 65535
 
 -- the lines of an order's script, run from a state
 abbrev pub script-lines : Whole → State → List ℕ

@@ -1,4 +1,4 @@
-//! Lines behind one another.
+//! Lines behind one another. A line fits in 24 bytes, so only want of memory can fail here.
 
 ghost use Prim.Native.Nat.{_≤_};
 ghost use mathlib.Core.List.{_++_};
@@ -28,7 +28,7 @@ fn push_reply(text: &mut Vec<u8>, call: Call, reply: Result<Answer, Refusal>) ->
 }
 
 // One more line: what is wrong with the order.
-fn push_bad(text: &mut Vec<u8>, fault: Fault) -> Result<(), AllocError>
+pub(crate) fn push_bad(text: &mut Vec<u8>, fault: Fault) -> Result<(), AllocError>
     requires { ⌜ fault .offset ≤ 65535 ⌝ }
     ensures { λ r. ⌜ made r (λ _. vec-items (now (text .exit)) ≡ vec-items (now (text .entry)) ++ bad-line fault) ⌝ }
 {
@@ -37,4 +37,20 @@ fn push_bad(text: &mut Vec<u8>, fault: Fault) -> Result<(), AllocError>
         Ok(length) => text.extend_from_slice(&line[0..length]),
         Err(_) => Err(AllocError),
     }
+}
+
+// A line for each call and its answer.
+pub(crate) fn push_replies(
+    text: &mut Vec<u8>,
+    calls: &[Call],
+    answers: &[Result<Answer, Refusal>],
+) -> Result<(), AllocError>
+    requires { ⌜ length (now calls) ≤ length (now answers) ⌝ }
+    ensures { λ r. ⌜ made r (λ _. vec-items (now (text .exit))
+        ≡ vec-items (now (text .entry)) ++ reply-lines (now (calls .entry)) (now (answers .entry))) ⌝ }
+{
+    for i in 0..calls.len() {
+        push_reply(text, calls[i], answers[i])?;
+    }
+    Ok(())
 }

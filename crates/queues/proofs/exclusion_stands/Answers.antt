@@ -1,4 +1,4 @@
-use Rattle.queues.proofs.Whole.{exclusion}
+use Rattle.queues.proofs.Exclusion.{exclusion}
 use Rattle.queues.proofs.exclusion_stands.Needs as need
 
 pub returns : need.returns
