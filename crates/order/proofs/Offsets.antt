@@ -191,3 +191,17 @@ fault-near bs f e = subst Near-whole e (near-whole bs)
 pub end-near : (bs : List ℕ) (w : Whole) (f : Fault) → read-whole bs ≡ Ok w → w .script .fault ≡ Some f
     → f .offset ≤ 65535
 end-near bs w f e o = subst (Near-end 65535) o (subst Near-whole e (near-whole bs))
+
+-- and an order that is run is no longer than an order can be
+abbrev Short : List ℕ → Result Whole Fault → Type 0
+Short bs (Ok w) = length bs ≤ 65535
+Short bs (Err f) = Unit {0}
+
+short : (bs : List ℕ) (r : Result Reading Fault) → ((x : Reading) → r ≡ Ok x → length bs ≤ 65535)
+    → Short bs (with-calls bs r)
+short bs (Ok x) h = h x refl
+short bs (Err f) h = tt
+
+pub short-order : (bs : List ℕ) (w : Whole) → read-whole bs ≡ Ok w → length bs ≤ 65535
+short-order bs w e =
+    subst (Short bs) e (short bs (reading bs) (λ x. short-ok bs (ltb 65535 (length bs)) x refl))

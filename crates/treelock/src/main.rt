@@ -21,10 +21,10 @@ fn main(rt: LibcRuntime) -> Result<(), AnyError> {
     rt.stdin()
         .take(LONGEST_ORDER as u64 + 1)
         .read_to_end(&mut order)?;
-    let mut window = vec![heap; 0u8; WINDOW_BYTES]?;
+    let mut window = vec![in heap; 0u8; WINDOW_BYTES]?;
     let idle = Record { place: 0, level: 0, home: 0, number: 0, counter: 0 };
-    let mut records = vec![heap; idle; MOST_RANKS]?;
-    let mut answers = vec![heap; Err(Refusal::TooShort); MOST_CALLS]?;
+    let mut records = vec![in heap; idle; MOST_RANKS]?;
+    let mut answers = vec![in heap; Err(Refusal::TooShort); MOST_CALLS]?;
     let text = run_order(
         heap,
         order.as_slice(),
