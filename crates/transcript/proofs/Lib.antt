@@ -1,3 +1,4 @@
 pub mod Extended
 pub mod Replies
+pub mod Roomy
 pub mod Told

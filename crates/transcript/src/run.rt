@@ -42,11 +42,15 @@ fn tell_fault(heap: Global, fault: Fault) -> Result<Vec<u8>, AllocError>
 }
 
 // The lines of the calls that ran, and the line of the fault that ended them, if any.
-fn tell_run(heap: Global, order: &OrderRead, answers: &[Result<Answer, Refusal>]) -> Result<Vec<u8>, AllocError>
+fn tell_run(
+    heap: Global,
+    order: &OrderRead,
+    answers: &[Result<Answer, Refusal>],
+) -> Result<Vec<u8>, AllocError>
     requires { ⌜ length (vec-items (now order .calls)) ≤ length (now answers) ⌝ ∗ ⌜ Near-end (now order .fault) ⌝ }
     ensures { λ r. ⌜ made r (λ v. vec-items v
         ≡ reply-lines (vec-items (now (order .entry) .calls)) (now (answers .entry))
-            ++ fault-line (now (order .entry) .fault)) ⌝ }
+        ++ fault-line (now (order .entry) .fault)) ⌝ }
 {
     let mut text = Vec::new(heap);
     push_replies(&mut text, order.calls.as_slice(), answers)?;
@@ -56,11 +60,11 @@ fn tell_run(heap: Global, order: &OrderRead, answers: &[Result<Answer, Refusal>]
     Ok(text)
 }
 
-/// Runs an order over a byte memory in the caller's window, with the caller's tables of records and answers, and
-/// answers the lines of the run: one for each call, and one for the fault that ends a bad order.
-/// Refusals are those of the job, and want of memory, which has no number.
-/// Where it answers, the law holds of the order's plan and calls.
-pub fn run_order(
+// Runs an order over a byte memory in the caller's window, with the caller's tables of records and answers, and
+// answers the lines of the run: one for each call, and one for the fault that ends a bad order.
+// Refusals are those of the job, and want of memory, which has no number.
+// Where it answers, the law holds of the order's plan and calls. The lent tables are scratch room.
+pub(crate) fn run_order(
     heap: Global,
     order: &[u8],
     window: &mut [u8],
@@ -69,17 +73,23 @@ pub fn run_order(
 ) -> Result<Vec<u8>, Refusal>
     ensures value { λ r. ⌜ Cases r
         (λ v. transcript (now (order .entry)) (now (window .entry)) (now (records .entry)) (now (answers .entry))
-            ≡ Ok (vec-items v))
+        ≡ Ok (vec-items v))
         (λ e. isSome (number-of e) ≡ true
-            → transcript (now (order .entry)) (now (window .entry)) (now (records .entry)) (now (answers .entry))
-            ≡ Err e) ⌝ }
+        → transcript (now (order .entry)) (now (window .entry)) (now (records .entry)) (now (answers .entry))
+        ≡ Err e) ⌝ }
     ensures law { λ r. ⌜ made r (λ _. Lawful-run (read-whole (now (order .entry))) (now (window .entry))
         (now (records .entry))) ⌝ }
 {
     match read_order(heap, order) {
         Ok(read) => {
             let mut memory = ByteMemory::new(window);
-            run_job(&read.plan, &mut memory, records, read.calls.as_slice(), answers)?;
+            run_job(
+                &read.plan,
+                &mut memory,
+                records,
+                read.calls.as_slice(),
+                answers,
+            )?;
             let text = tell_run(heap, &read, answers)?;
             Ok(text)
         }
