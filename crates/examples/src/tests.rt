@@ -2,4 +2,5 @@
 
 mod cases;
 mod faults;
+mod orders;
 mod runs;

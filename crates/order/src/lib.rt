@@ -1,5 +1,5 @@
 //! The step order: a plan, then calls, as commands of one letter and fixed operands.
-//! Here is the plan's part: read in, written out, and that the two agree.
+//! The plan is read in and written out, and the two agree; calls are read in; the lines of a run are made.
 
 pub mod bytes;
 pub mod calls;

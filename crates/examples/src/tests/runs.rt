@@ -77,29 +77,29 @@ fn read_again(plan: &Plan, words: &mut [u64], records: &mut [Record]) -> u64 {
 }
 
 /// The step at which a lone writer enters.
-pub fn writer_enters(plan: &Plan, rank: u16) -> u64 {
+pub(crate) fn writer_enters(plan: &Plan, rank: u16) -> u64 {
     write(plan, &mut [0; 40], &mut [IDLE; 5], rank)
 }
 
 /// The step at which it is free again after its leave.
-pub fn writer_free(plan: &Plan, rank: u16) -> u64 {
+pub(crate) fn writer_free(plan: &Plan, rank: u16) -> u64 {
     write_and_leave(plan, &mut [0; 40], &mut [IDLE; 5], rank)
 }
 
 /// A home's tail after that.
-pub fn tail_after_writer(plan: &Plan, rank: u16, home: u64) -> Result<u64, Fail> {
+pub(crate) fn tail_after_writer(plan: &Plan, rank: u16, home: u64) -> Result<u64, Fail> {
     let mut words = [0; 40];
     let _ = write_and_leave(plan, &mut words, &mut [IDLE; 5], rank);
     Ok(WordMemory::new(&mut words).get(home, TAIL)?)
 }
 
 /// The step at which a returning reader enters.
-pub fn reader_returns(plan: &Plan) -> u64 {
+pub(crate) fn reader_returns(plan: &Plan) -> u64 {
     read_again(plan, &mut [0; 40], &mut [IDLE; 5])
 }
 
 /// ARRIVE and DEPART of a counter after that.
-pub fn counter_after_readers(plan: &Plan, counter: u16) -> Result<(u64, u64), Fail> {
+pub(crate) fn counter_after_readers(plan: &Plan, counter: u16) -> Result<(u64, u64), Fail> {
     let mut words = [0; 40];
     let _ = read_again(plan, &mut words, &mut [IDLE; 5]);
     let home = plan.counter_home(counter);
@@ -108,7 +108,7 @@ pub fn counter_after_readers(plan: &Plan, counter: u16) -> Result<(u64, u64), Fa
 }
 
 /// 1 if rank 1 hands on from a place with a count; its nodes at both levels have a successor.
-pub fn hands_on(plan: &Plan, place: u8, level: u8, count: u64) -> Result<u64, Fail> {
+pub(crate) fn hands_on(plan: &Plan, place: u8, level: u8, count: u64) -> Result<u64, Fail> {
     let mut words = [0; 40];
     words[0] = 2;
     words[30] = 8;

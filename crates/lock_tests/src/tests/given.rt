@@ -21,7 +21,7 @@ use std::test::*;
 
 /// Ranks 1 to 3 on element 2, ranks 4 and 5 on element 3, both below element 1; counter spacing 2, reader and
 /// writer threshold 2, level 2's threshold 1. So there are 8 homes, and counters 0 to 2 at homes 1, 3 and 5.
-pub fn plan_a(heap: Global) -> Result<Plan, Fail> {
+pub(crate) fn plan_a(heap: Global) -> Result<Plan, Fail> {
     let shape = Shape {
         ranks: 5,
         elements: 3,
@@ -90,7 +90,7 @@ fn either<T: Drop>(used: bool, value: T, other: T) -> T {
 }
 
 /// The lowest values of the used fields, and those of `other` in the rest.
-pub fn lowest(uses: Uses, other: Record) -> Record {
+pub(crate) fn lowest(uses: Uses, other: Record) -> Record {
     Record {
         place: uses.0,
         level: either(uses.1 > 0, uses.1, other.level),
@@ -101,7 +101,7 @@ pub fn lowest(uses: Uses, other: Record) -> Record {
 }
 
 /// The highest values of the used fields, and those of `other` in the rest.
-pub fn highest(uses: Uses, other: Record) -> Record {
+pub(crate) fn highest(uses: Uses, other: Record) -> Record {
     Record {
         place: uses.0,
         level: either(uses.1 > 0, 2, other.level),
@@ -112,7 +112,7 @@ pub fn highest(uses: Uses, other: Record) -> Record {
 }
 
 /// Each call of each of the ranks is refused so.
-pub fn all_refuse<M: Memory>(
+pub(crate) fn all_refuse<M: Memory>(
     plan: &Plan,
     memory: &mut M,
     records: &mut [Record],
