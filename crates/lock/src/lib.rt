@@ -3,6 +3,7 @@
 
 pub mod ask;
 pub mod layout;
+pub mod leave;
 pub mod occupied;
 pub mod room;
 pub mod step;

@@ -1,5 +1,8 @@
 //! The tests: the same operations with the same answers in every memory, and the borders.
 
+use crate::single::SingleHome;
+use crate::single::SingleHomeChange;
+use crate::single::SingleHomeRead;
 use memory::ARRIVE;
 use memory::ByteMemory;
 use memory::ByteMemoryChange;
@@ -114,6 +117,7 @@ fn every_memory_answers_the_same() -> Result<(), Fail> {
 
 #[test]
 fn every_memory_ends_at_its_last_home(rt: LibcRuntime) -> Result<(), Fail> {
+    border(&mut SingleHome { words: [0; 5] }, 1)?;
     for (words, bytes, count) in SIZES {
         let mut table = vec![in rt.alloc(); 0u64; words]?;
         border(&mut WordMemory::new(table.as_mut_slice()), count)?;

@@ -1,5 +1,9 @@
+pub mod Bounds
+pub mod Decimals
+pub mod Offsets
 pub mod Overlays
 pub mod RoundTrip
 pub mod Runs
-pub mod Whole
+pub mod Scripts
+pub mod ReadParts
 pub mod Written

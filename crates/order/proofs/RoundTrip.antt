@@ -20,7 +20,7 @@ use Rattle.order.specs.Reading.{operands, reading, shape-in}
 use Rattle.order.specs.Writing.{Reads-back, command, head-bytes, plan-bytes}
 use Rattle.order.proofs.Overlays.{length-commands}
 use Rattle.order.proofs.Runs.{run-more, operands-more}
-use Rattle.order.proofs.Whole.{reading-by}
+use Rattle.order.proofs.ReadParts.{reading-by}
 
 -- two bytes spell a number below 65,536 again, four bytes one below 2^32
 pair-back : (n : ℕ) → n < 65536 → n / 256 % 256 * 256 + n % 256 ≡ n

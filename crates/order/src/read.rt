@@ -3,9 +3,11 @@
 ghost use Prim.Native.Nat.{_≤_};
 ghost use mathlib.Core.Bool.{true};
 ghost use mathlib.Core.Path.{_≡_};
+ghost use lib.ListN.{length};
 ghost use Rattle.std.specs.Of.Vec.{vec-items};
 ghost use Rattle.std.specs.Options.{isSome};
 ghost use Rattle.std.specs.Results.{Cases};
+ghost use Rattle.std.specs.Vec.{made};
 ghost use Rattle.std.specs.declared.result.Result.the-variants.{Ok, Err};
 ghost use Rattle.refusal.specs.Numbers.{number-of};
 ghost use Rattle.order.specs.Commands.{run};
@@ -75,7 +77,8 @@ fn read_operands(
 /// The plan at the front of an order and the offset behind its G, or the first fault.
 /// What stands behind G is not looked at.
 pub fn read_plan(heap: Global, order: &[u8]) -> Result<PlanRead, Fault>
-    ensures { λ r. ⌜ Answers r (reading (now (order .entry))) ⌝ }
+    ensures value { λ r. ⌜ Answers r (reading (now (order .entry))) ⌝ }
+    ensures short { λ r. ⌜ made r (λ x. (length (now (order .entry)) ≤ 65535) × (x .end ≤ 500000)) ⌝ }
 {
     if order.len() > LONGEST_ORDER {
         return Err(Fault::new(Refusal::OrderTooLong, LONGEST_ORDER));

@@ -12,7 +12,7 @@ use plan::shape::Shape;
 use refusal::Refusal;
 
 // Lays bytes over a buffer from a place on.
-fn put(out: &mut [u8], at: usize, bytes: &[u8])
+pub(crate) fn put(out: &mut [u8], at: usize, bytes: &[u8])
     requires { ⌜ at + length (now bytes) ≤ length (now out) ⌝ }
     ensures { λ _. ⌜ now (out .exit) ≡ pasted (now (out .entry)) at (now (bytes .entry)) ⌝ }
 {

@@ -1,0 +1,3 @@
+pub mod Extended
+pub mod Replies
+pub mod Told
