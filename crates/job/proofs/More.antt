@@ -59,8 +59,8 @@ pub answers-all : (t : Tree) (cs : List Call) (s : State) (out first all : List 
 answers-all t cs s out first all inv behind =
     let n = length cs in
     let front : take n out ≡ all =
-        sym (append-nil (take n out))
-        ∙ ap (λ (z : List Reply). take n out ++ z) (sym (at-drop-all (answers t s) cs n (omega arith)))
-        ∙ inv
+    sym (append-nil (take n out))
+    ∙ ap (λ (z : List Reply). take n out ++ z) (sym (at-drop-all (answers t s) cs n (omega arith)))
+    ∙ inv
     in
     sym (take-append-drop n out) ∙ ap₂ (λ (x y : List Reply). x ++ y) front behind

@@ -33,10 +33,10 @@ pub fn run_call<M: Memory>(
         (now (records .entry)) call .answer ⌝ }
     ensures words { λ _. ⌜ M·ReadMemory .words (now (memory .exit))
         ≡ called (tree-of (now (plan .entry))) (M·ReadMemory .words (now (memory .entry)))
-            (now (records .entry)) call .words ⌝ }
+        (now (records .entry)) call .words ⌝ }
     ensures records { λ _. ⌜ now (records .exit)
         ≡ called (tree-of (now (plan .entry))) (M·ReadMemory .words (now (memory .entry)))
-            (now (records .entry)) call .records ⌝ }
+        (now (records .entry)) call .records ⌝ }
 {
     match call {
         Call::AskWrite { rank } => ask_to_write(plan, records, rank),
@@ -57,14 +57,14 @@ fn run_calls<M: Memory>(
     requires { ⌜ length (now calls) ≤ length (now answers) ⌝ }
     ensures words { λ _. ⌜ M·ReadMemory .words (now (memory .exit))
         ≡ ran (tree-of (now (plan .entry)))
-            (state (M·ReadMemory .words (now (memory .entry))) (now (records .entry))) (now (calls .entry)) .words ⌝ }
+        (state (M·ReadMemory .words (now (memory .entry))) (now (records .entry))) (now (calls .entry)) .words ⌝ }
     ensures records { λ _. ⌜ now (records .exit)
         ≡ ran (tree-of (now (plan .entry)))
-            (state (M·ReadMemory .words (now (memory .entry))) (now (records .entry))) (now (calls .entry)) .records ⌝ }
+        (state (M·ReadMemory .words (now (memory .entry))) (now (records .entry))) (now (calls .entry)) .records ⌝ }
     ensures table { λ _. ⌜ now (answers .exit)
         ≡ answers-to (tree-of (now (plan .entry)))
-            (state (M·ReadMemory .words (now (memory .entry))) (now (records .entry))) (now (calls .entry))
-            ++ drop (length (now (calls .entry))) (now (answers .entry)) ⌝ }
+        (state (M·ReadMemory .words (now (memory .entry))) (now (records .entry))) (now (calls .entry))
+        ++ drop (length (now (calls .entry))) (now (answers .entry)) ⌝ }
 {
     for i in 0..calls.len() {
         answers[i] = run_call(plan, memory, records, calls[i]);
@@ -85,13 +85,13 @@ pub fn run_job<M: Memory>(
         (now (records .entry)) (now (calls .entry)) (now (answers .entry)) ⌝ }
     ensures words { λ _. ⌜ M·ReadMemory .words (now (memory .exit))
         ≡ job-state (tree-of (now (plan .entry))) (M·ReadMemory .words (now (memory .entry)))
-            (now (records .entry)) (now (calls .entry)) (now (answers .entry)) .words ⌝ }
+        (now (records .entry)) (now (calls .entry)) (now (answers .entry)) .words ⌝ }
     ensures records { λ _. ⌜ now (records .exit)
         ≡ job-state (tree-of (now (plan .entry))) (M·ReadMemory .words (now (memory .entry)))
-            (now (records .entry)) (now (calls .entry)) (now (answers .entry)) .records ⌝ }
+        (now (records .entry)) (now (calls .entry)) (now (answers .entry)) .records ⌝ }
     ensures table { λ _. ⌜ now (answers .exit)
         ≡ job-answers (tree-of (now (plan .entry))) (M·ReadMemory .words (now (memory .entry)))
-            (now (records .entry)) (now (calls .entry)) (now (answers .entry)) ⌝ }
+        (now (records .entry)) (now (calls .entry)) (now (answers .entry)) ⌝ }
     ensures law { λ r. ⌜ made r (λ _. Law (tree-of (now (plan .entry)))
         (laid (tree-of (now (plan .entry))) (M·ReadMemory .words (now (memory .entry))) (now (records .entry)))
         (now (calls .entry))) ⌝ }

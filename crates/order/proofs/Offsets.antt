@@ -98,7 +98,7 @@ near-commands bs s rest =
     let at-E : H ≡ Ok tt → 20 ≤ n = ends-checked bs 0 letter-H in
     let at-K : H ≡ Ok tt → E ≡ Ok tt → ranks-place bs ≤ n = λ h. ends-run bs letter-E 20 (parents-due bs) refl (at-E h) in
     let at-G : H ≡ Ok tt → E ≡ Ok tt → K ≡ Ok tt → go-place bs ≤ n =
-        λ h e. ends-run bs letter-K (ranks-place bs) (ranks-due bs) refl (at-K h e)
+    λ h e. ends-run bs letter-K (ranks-place bs) (ranks-due bs) refl (at-K h e)
     in
     near-then n (commands-checked bs) s
     (near-then n H (then E (then K G)) (near-checked bs 0 letter-H n (omega arith)) (λ h.

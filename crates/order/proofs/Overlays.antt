@@ -73,7 +73,7 @@ three-parts out p q r a b c h b-is c-is =
     let c-at : c ≡ a + length (p ++ q) = simp length-append (omega arith) in
     let two : pasted (pasted out a p) b q ≡ pasted out a (p ++ q) = rw b-is (pasted-more out p q a h) in
     let three : pasted (pasted out a (p ++ q)) c r ≡ pasted out a ((p ++ q) ++ r) =
-        rw c-at (pasted-more out (p ++ q) r a h)
+    rw c-at (pasted-more out (p ++ q) r a h)
     in
     ap (λ x. pasted x c r) two ∙ three ∙ ap (pasted out a) (append-assoc p q r)
 
@@ -115,13 +115,13 @@ pub five-puts : (out o₁ o₂ o₃ o₄ o₅ p q r u v : List ℕ) (b c d e : �
 five-puts out o₁ o₂ o₃ o₄ o₅ p q r u v b c d e e₁ e₂ e₃ e₄ e₅ b-is c-is d-is e-is =
     let l : List ℕ = p ++ (q ++ r) in
     let n : length l ≡ length p + (length q + length r) =
-        length-append p (q ++ r) ∙ ap (λ x. length p + x) (length-append q r)
+    length-append p (q ++ r) ∙ ap (λ x. length p + x) (length-append q r)
     in
     let d-at : d ≡ length l = omega arith in
     let m = length-append l u in
     let e-at : e ≡ length (l ++ u) = omega arith in
     let front : o₃ ≡ pasted out 0 l =
-        three-puts out o₁ o₂ o₃ p q r 0 b c (omega arith) e₁ e₂ e₃ (omega arith) c-is
+    three-puts out o₁ o₂ o₃ p q r 0 b c (omega arith) e₁ e₂ e₃ (omega arith) c-is
     in
     let same : (l ++ u) ++ v ≡ p ++ (q ++ (r ++ (u ++ v))) = simp append-assoc in
     e₅

@@ -41,7 +41,7 @@ module _ (bs : List ℕ) (start k : ℕ) (cs : List Call)
   pub ends-here : k < length bs → length bs ≤ start + 3 * k → script cs None ≡ script-at bs start
   ends-here h l =
       let o : script-from bs (length bs - k) (start + 3 * k) ≡ script [] None =
-          opened bs k (start + 3 * k) h ∙ rw (le-leb (length bs) (start + 3 * k) l)
+      opened bs k (start + 3 * k) h ∙ rw (le-leb (length bs) (start + 3 * k) l)
       in
       ap (λ xs. script xs None) (sym (append-nil cs)) ∙ sym (ap (prefixed cs) o) ∙ inv
 
@@ -50,7 +50,7 @@ module _ (bs : List ℕ) (start k : ℕ) (cs : List Call)
       → script cs (Some f) ≡ script-at bs start
   bad-here f h l e =
       let o : script-from bs (length bs - k) (start + 3 * k) ≡ script [] (Some f) =
-          opened bs k (start + 3 * k) h ∙ rw (lt-leb (length bs) (start + 3 * k) l, e)
+      opened bs k (start + 3 * k) h ∙ rw (lt-leb (length bs) (start + 3 * k) l, e)
       in
       ap (λ xs. script xs (Some f)) (sym (append-nil cs)) ∙ sym (ap (prefixed cs) o) ∙ inv
 
@@ -62,7 +62,7 @@ module _ (bs : List ℕ) (start k : ℕ) (cs : List Call)
       let rest = script-from bs (length bs - (k + 1)) (start + 3 * k + 3) in
       let next : start + 3 * (k + 1) ≡ start + 3 * k + 3 = omega arith in
       let o : script-from bs (length bs - k) (start + 3 * k) ≡ script (c ∷ rest .calls) (rest .fault) =
-          opened bs k (start + 3 * k) h ∙ rw (lt-leb (length bs) (start + 3 * k) l, e)
+      opened bs k (start + 3 * k) h ∙ rw (lt-leb (length bs) (start + 3 * k) l, e)
       in
       ap₂ (λ xs n. prefixed xs (script-from bs (length bs - (k + 1)) n)) push next
       ∙ ap (λ xs. script xs (rest .fault)) (append-assoc cs (c ∷ []) (rest .calls))

@@ -52,7 +52,10 @@ pub(crate) fn read_calls(heap: Global, order: &[u8], start: usize) -> Result<Cal
             return Ok(CallsRead { calls, fault: None });
         }
         match read_call(order, at) {
-            Err(fault) => return Ok(CallsRead { calls, fault: Some(fault) }),
+            Err(fault) => return Ok(CallsRead {
+                calls,
+                fault: Some(fault),
+            }),
             Ok(call) => calls.push(call)?,
         }
     }

@@ -9,8 +9,18 @@ ghost use Rattle.std.specs.Vec.{made};
 ghost use Rattle.std.specs.Written.{decimal};
 ghost use Rattle.order.specs.Bytes.{pasted};
 ghost use Rattle.order.specs.Lines.{
-    answer-word, bad-line, letter, line-length, line-written, rank, refusal-words, reply-line, reply-words, roomy-bad, roomy-line,
-    shown-number,
+  answer-word,
+  bad-line,
+  letter,
+  line-length,
+  line-written,
+  rank,
+  refusal-words,
+  reply-line,
+  reply-words,
+  roomy-bad,
+  roomy-line,
+  shown-number,
 };
 use crate::fault::Fault;
 use crate::write::put;
@@ -114,7 +124,11 @@ fn put_reply(out: &mut [u8], at: usize, reply: Result<Answer, Refusal>) -> usize
 
 /// The line of a call and what it answered: letter, rank and answer, or `refused` and the number.
 /// Answers the line's length; a buffer of fewer than 24 bytes is refused by 15 and left as it was.
-pub fn write_reply(call: Call, reply: Result<Answer, Refusal>, out: &mut [u8]) -> Result<usize, Refusal>
+pub fn write_reply(
+    call: Call,
+    reply: Result<Answer, Refusal>,
+    out: &mut [u8],
+) -> Result<usize, Refusal>
     ensures value { λ r. ⌜ r ≡ line-length (roomy-line (now (out .entry))) (reply-line call reply) ⌝ }
     ensures buffer { λ _. ⌜ now (out .exit)
         ≡ line-written (roomy-line (now (out .entry))) (reply-line call reply) (now (out .entry)) ⌝ }

@@ -25,7 +25,11 @@ pub fn read_order(heap: Global, order: &[u8]) -> Result<OrderRead, Fault>
 {
     let read = read_plan(heap, order)?;
     match read_calls(heap, order, read.end) {
-        Ok(CallsRead { calls, fault }) => Ok(OrderRead { plan: read.plan, calls, fault }),
+        Ok(CallsRead { calls, fault }) => Ok(OrderRead {
+            plan: read.plan,
+            calls,
+            fault,
+        }),
         Err(_) => Err(Fault::new(Refusal::OutOfMemory, read.end)),
     }
 }

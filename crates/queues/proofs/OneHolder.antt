@@ -142,43 +142,50 @@ module _ (T : Tree) (G : Lawful T) (s : State) (v : Inv T s) where
   pub apart : (p i : ℕ) → On (T .own-level p) i → hold-level (T .own-level p) (s .phases p) ≡ suc i
       → (Waits (s .phases p) i → ⊥) → (k a : ℕ) → s .head-turn k ≤ a → a < s .next-turn k
       → s .node-at k a ≢ T .node p i
-  apart p i on h w k a l l′ e =
-      let o : Occupant T s k a = occupant k a l l′ in
-      let u : (o .rank ≡ p) × (o .level ≡ i) =
-      one-owner (o .rank) p (o .level) i (o .on) on (o .near) (omega arith) (sym (o .is) ∙ e) in
-      ⊎-elim
-      (λ (r : (a ≡ s .head-turn k) × (hold-level (T .own-level (o .rank)) (s .phases (o .rank)) ≤ o .level)).
-      let q : hold-level (T .own-level (o .rank)) (s .phases (o .rank)) ≡ hold-level (T .own-level p) (s .phases p) =
-      ap (λ x. hold-level (T .own-level x) (s .phases x)) (u .0) in
-      omega arith)
-      (λ (r : Waits (s .phases (o .rank)) (o .level)). w (subst₂ (λ x y. Waits (s .phases x) y) (u .0) (u .1) r))
-      (o .role)
+  apart p i on h w k a l l′ e = by (o .role)
+    where
+      o : Occupant T s k a
+      o = occupant k a l l′
+
+      same : (o .rank ≡ p) × (o .level ≡ i)
+      same = one-owner (o .rank) p (o .level) i (o .on) on (o .near) (omega arith) (sym (o .is) ∙ e)
+
+      holds : hold-level (T .own-level (o .rank)) (s .phases (o .rank)) ≡ hold-level (T .own-level p) (s .phases p)
+      holds = ap (λ x. hold-level (T .own-level x) (s .phases x)) (same .0)
+
+      by : ((a ≡ s .head-turn k) × (hold-level (T .own-level (o .rank)) (s .phases (o .rank)) ≤ o .level))
+          ⊎ Waits (s .phases (o .rank)) (o .level) → ⊥
+      by (inl r) = omega (arith, holds, same)
+      by (inr r) = w (subst₂ (λ x y. Waits (s .phases x) y) (same .0) (same .1) r)
 
   -- the turn of a rank that stands behind another is the only one with its node
   pub turn-is : (k a p i : ℕ) → T .element p i ≡ k → s .head-turn k ≤ a → suc a < s .next-turn k
       → s .node-at k (suc a) ≡ T .node p i → (b : Behind T s p i) → b .turn ≡ a
-  turn-is k a p i e l h is b =
-      let q : suc (b .turn) ≡ suc a =
-      v .once k (suc (b .turn)) (suc a) (rw (← e) (omega arith)) (rw (← e) (b .high)) (omega arith) h
-      (rw (← e) (b .is) ∙ sym is) in
-      omega arith
+  turn-is k a p i e l h is b = omega (arith, one)
+    where
+      one : suc (b .turn) ≡ suc a
+      one = v .once k (suc (b .turn)) (suc a) (rw (← e) (omega arith)) (rw (← e) (b .high)) (omega arith) h
+          (rw (← e) (b .is) ∙ sym is)
 
   -- who stands behind a rank that is about to hand over
   pub successor : (p h i t : ℕ) → s .phases p ≡ give h i t → Successor T s p i t
-  successor p h i t e =
-      let rg = range-of (s .phases p) (T .own-level p) (v .range p) (give h i t) e in
-      let on : On (T .own-level p) i = omega arith in
-      let k = T .element p i in
-      let lv : hold-level (T .own-level p) (s .phases p) ≡ h = ap (hold-level (T .own-level p)) e in
-      let hd : Heads T s p i = v .heads p i on (omega arith) in
-      let g : (t ≡ s .nexts (T .node p i)) × (t ≢ 0) = asked T s v p (give h i t) e in
-      ⊎-elim
-      (λ (z : suc (s .head-turn k) ≡ s .next-turn k).
-      absurd (g .1 (g .0 ∙ (ap (s .nexts) (sym (hd .is)) ∙ v .ends k (s .head-turn k) (omega arith) z))))
-      (λ (z : suc (s .head-turn k) ≡ s .next-turn k → ⊥).
-      found hd on (omega arith) (v .member k (s .head-turn k) (omega arith) (omega arith)))
-      (cases-eq (suc (s .head-turn k)) (s .next-turn k))
+  successor p h i t e = someone (cases-eq (suc (s .head-turn k)) (s .next-turn k))
     where
+      k : ℕ
+      k = T .element p i
+
+      rg : InRange (T .own-level p) (give h i t)
+      rg = range-of (s .phases p) (T .own-level p) (v .range p) (give h i t) e
+
+      on-p : On (T .own-level p) i
+      on-p = omega (arith, rg)
+
+      head-p : Heads T s p i
+      head-p = v .heads p i on-p (omega (arith, rg, ap (hold-level (T .own-level p)) e))
+
+      has-read : (t ≡ s .nexts (T .node p i)) × (t ≢ 0)
+      has-read = asked T s v p (give h i t) e
+
       found : Heads T s p i → On (T .own-level p) i
           → suc (s .head-turn (T .element p i)) < s .next-turn (T .element p i)
           → Member T s (T .element p i) (suc (s .head-turn (T .element p i))) → Successor T s p i t
@@ -199,9 +206,6 @@ module _ (T : Tree) (G : Lawful T) (s : State) (v : Inv T s) where
           is′ : s .node-at (T .element p i) (suc (s .head-turn (T .element p i))) ≡ T .node r i
           is′ = m .is ∙ ap (T .node r) same
 
-          g : (t ≡ s .nexts (T .node p i)) × (t ≢ 0)
-          g = asked T s v p (give h i t) e
-
           here : (b : Behind T s r i) → s .node-at (T .element r i) (b .turn) ≡ T .node p i
           here b = rw
               (queue′, turn-is (T .element p i) (s .head-turn (T .element p i)) r i queue′ (omega arith) more is′ b)
@@ -217,11 +221,21 @@ module _ (T : Tree) (G : Lawful T) (s : State) (v : Inv T s) where
                 waits = w;
                 more = more;
                 is = is′;
-                target = g .0 ∙ (ap (s .nexts) (sym (here (ww .spot))) ∙ ww .linked);
+                target = has-read .0 ∙ (ap (s .nexts) (sym (here (ww .spot))) ∙ ww .linked);
               }
           by (inr w) =
               let ll = asked T s v r (link i (w .0)) (w .1) in
-              absurd (g .1 (g .0 ∙ (ap (s .nexts) (sym (here (ll .spot))) ∙ ll .none)))
+              absurd (has-read .1 (has-read .0 ∙ (ap (s .nexts) (sym (here (ll .spot))) ∙ ll .none)))
+
+      -- the head is not the last: NEXT of the last node is 0, and t is not
+      someone : (suc (s .head-turn k) ≡ s .next-turn k) ⊎ (suc (s .head-turn k) ≡ s .next-turn k → ⊥)
+          → Successor T s p i t
+      someone (inl z) =
+          let end = v .ends k (s .head-turn k) (omega arith) z in
+          absurd (has-read .1 (has-read .0 ∙ (ap (s .nexts) (sym (head-p .is)) ∙ end)))
+      someone (inr z) =
+          let more : suc (s .head-turn k) < s .next-turn k = omega (arith, head-p .some) in
+          found head-p on-p more (v .member k (s .head-turn k) (omega arith) more)
 
   -- a node stands in one queue, at one turn
   pub one-turn : (k m a b : ℕ) → s .head-turn k ≤ a → a < s .next-turn k → s .head-turn m ≤ b → b < s .next-turn m

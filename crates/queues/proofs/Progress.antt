@@ -34,17 +34,25 @@ pub record Mover (T : Tree) (s : State) : Type 0 where
 -- whoever waits, somebody holds what it waits for; who waits in turn waits higher up
 onward : (T : Tree) → Lawful T → (s : State) → Inv T s → (d i p : ℕ) → i ≤ suc d → s .phases p ≡ wait i
     → ((j q : ℕ) → j ≤ d → s .phases q ≡ wait j → Mover T s) → Mover T s
-onward T G s v d i p l e again =
-    let b : Behind T s p i = asked T s v p (wait i) e .spot in
-    let on : On (T .own-level p) i = subst (InRange (T .own-level p)) e (v .range p) in
-    let h : Holder T s (T .element p i) = v .holder (T .element p i) (omega (arith, b .low, b .high)) in
-    let same : h .level ≡ i = G .level-of (h .rank) p (h .level) i (h .on) on (h .queue) in
-    ⊎-elim
-    (λ (w : (j : ℕ) × (s .phases (h .rank) ≡ wait j)).
-    again (w .0) (h .rank) (omega (arith, h .holds, ap (hold-level (T .own-level (h .rank))) (w .1))) (w .1))
-    (λ (w : (j : ℕ) → s .phases (h .rank) ≢ wait j).
-    record { rank = h .rank; holds = omega (arith, h .holds, h .on); free = w })
-    (waits-or (s .phases (h .rank)))
+onward T G s v d i p l e again = by (waits-or (s .phases (h .rank)))
+  where
+    b : Behind T s p i
+    b = asked T s v p (wait i) e .spot
+
+    on : On (T .own-level p) i
+    on = subst (InRange (T .own-level p)) e (v .range p)
+
+    h : Holder T s (T .element p i)
+    h = v .holder (T .element p i) (omega (arith, b .low, b .high))
+
+    same : h .level ≡ i
+    same = G .level-of (h .rank) p (h .level) i (h .on) on (h .queue)
+
+    by : ((j : ℕ) × (s .phases (h .rank) ≡ wait j)) ⊎ ((j : ℕ) → s .phases (h .rank) ≢ wait j) → Mover T s
+    by (inl (j, w)) =
+        let lv = ap (hold-level (T .own-level (h .rank))) w in
+        again j (h .rank) (omega (arith, h .holds, same, lv)) w
+    by (inr w) = record { rank = h .rank; holds = omega (arith, h .holds, h .on); free = w }
 
 -- from whoever waits to a rank that holds something and does not wait
 pub mover : (T : Tree) → Lawful T → (s : State) → Inv T s → (d i p : ℕ) → i ≤ d → s .phases p ≡ wait i → Mover T s

@@ -4,7 +4,7 @@
 -- and the words are at rest.
 use Prim.Native.Nat.{ℕ, suc, _-_, _^_, _≤_, _<_}
 use mathlib.Core.Path.{_≡_, refl, _∙_, ap, subst}
-use mathlib.Core.Logic.{_⊎_, inl, _≢_, ⊎-elim}
+use mathlib.Core.Logic.{_⊎_, inl, inr, _≢_, ⊎-elim}
 use mathlib.Core.Bool.{cond}
 use lib.Dec.{eqb}
 use native.Mathlib.Omega.{arith}
@@ -85,14 +85,7 @@ module _ (P : ℕ) (L : Plan) (g : Apt P L) where
   pub calm : (s : Lock) → Resting s → Calm L s
   calm s v =
       record {
-        tails = λ k.
-            inv .empty k
-            (⊎-elim
-            (λ (z : s .head-turn k < s .next-turn k).
-            let h = inv .holder k z in
-            absurd (omega (arith, h .holds, h .on, still-phase s v (h .rank) (omega (arith, h .on)))))
-            (λ (z : s .next-turn k ≤ s .head-turn k). omega (arith, inv .order k))
-            (cases-lt (s .head-turn k) (s .next-turn k)));
+        tails = λ k. inv .empty k (nobody k (cases-lt (s .head-turn k) (s .next-turn k)));
         counts = λ c l. sums c l .0;
         small = λ c l. sums c l .1;
       }
@@ -100,6 +93,15 @@ module _ (P : ℕ) (L : Plan) (g : Apt P L) where
       inv : Inv T (view T s)
       inv = v .0 .safe .fine .queues
 
+      -- nobody holds, so nobody stands in a queue
+      nobody : (k : ℕ) → (s .head-turn k < s .next-turn k) ⊎ (s .next-turn k ≤ s .head-turn k)
+          → s .head-turn k ≡ s .next-turn k
+      nobody k (inl z) =
+          let h = inv .holder k z in
+          absurd (omega (arith, h .holds, h .on, still-phase s v (h .rank) (omega (arith, h .on))))
+      nobody k (inr z) = omega (arith, inv .order k)
+
+      -- nobody has a load or stands for a bit
       sums : (c : ℕ) → c < L .counters → (s .arrives c ≡ s .departs c) × (s .departs c ≤ L .reader-threshold)
       sums c l =
           let o = v .0 .safe .counted .each c l in

@@ -57,7 +57,7 @@ module _ (t : Tree) (ws : Words) (rs : List Record) (cs : List Call) (out table 
   pub table-fits : length cs ≤ length table
   table-fits =
       let n : length table ≡ length (answers t (laid t ws rs) cs) + length (drop (length cs) out) =
-          ap length table-is ∙ length-append (answers t (laid t ws rs) cs) (drop (length cs) out)
+      ap length table-is ∙ length-append (answers t (laid t ws rs) cs) (drop (length cs) out)
       in
       let m = length-answers t (laid t ws rs) cs in
       omega (arith, n, m)
@@ -85,8 +85,8 @@ module _ (bs window : List ℕ) (rs : List Record) (out table : List Reply) (w :
   lines-here text is e =
       let lines = script-lines w (start (w .plan) window rs) in
       let same : text ≡ lines =
-          e ∙ ap (λ (x : List ℕ). x ++ fault-line (w .script .fault))
-          (table-lines (w .plan) (byte-words window) rs (w .script .calls) out table accepted-here (table-here is))
+      e ∙ ap (λ (x : List ℕ). x ++ fault-line (w .script .fault))
+      (table-lines (w .plan) (byte-words window) rs (w .script .calls) out table accepted-here (table-here is))
       in
       ap (λ (r : Result Whole Fault). told r window rs out) read
       ∙ ap (λ (r : Result (Unit {0}) Refusal). if-run r lines) (sym accepted-here)
@@ -95,9 +95,9 @@ module _ (bs window : List ℕ) (rs : List Record) (out table : List Reply) (w :
   pub law-here : Law (w .plan) (laid (w .plan) ws rs) cs → Lawful-run (read-whole bs) window rs
   law-here law =
       let one : Law (w .plan) (laid (w .plan) (byte-words window) rs) cs =
-          subst (λ (x : Words). Law (w .plan) (laid (w .plan) x rs) cs) words law
+      subst (λ (x : Words). Law (w .plan) (laid (w .plan) x rs) cs) words law
       in
       let two : Law (w .plan) (laid (w .plan) (byte-words window) rs) (w .script .calls) =
-          subst (λ (x : List Call). Law (w .plan) (laid (w .plan) (byte-words window) rs) x) calls one
+      subst (λ (x : List Call). Law (w .plan) (laid (w .plan) (byte-words window) rs) x) calls one
       in
       subst (λ (r : Result Whole Fault). Lawful-run r window rs) (sym read) two

@@ -17,7 +17,11 @@ use refusal::Refusal;
 use std::alloc::AllocError;
 
 // One more line: a call and its answer.
-fn push_reply(text: &mut Vec<u8>, call: Call, reply: Result<Answer, Refusal>) -> Result<(), AllocError>
+fn push_reply(
+    text: &mut Vec<u8>,
+    call: Call,
+    reply: Result<Answer, Refusal>,
+) -> Result<(), AllocError>
     ensures { λ r. ⌜ made r (λ _. vec-items (now (text .exit)) ≡ vec-items (now (text .entry)) ++ reply-line call reply) ⌝ }
 {
     let mut line = [0u8; 24];

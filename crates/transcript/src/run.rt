@@ -42,11 +42,15 @@ fn tell_fault(heap: Global, fault: Fault) -> Result<Vec<u8>, AllocError>
 }
 
 // The lines of the calls that ran, and the line of the fault that ended them, if any.
-fn tell_run(heap: Global, order: &OrderRead, answers: &[Result<Answer, Refusal>]) -> Result<Vec<u8>, AllocError>
+fn tell_run(
+    heap: Global,
+    order: &OrderRead,
+    answers: &[Result<Answer, Refusal>],
+) -> Result<Vec<u8>, AllocError>
     requires { ⌜ length (vec-items (now order .calls)) ≤ length (now answers) ⌝ ∗ ⌜ Near-end (now order .fault) ⌝ }
     ensures { λ r. ⌜ made r (λ v. vec-items v
         ≡ reply-lines (vec-items (now (order .entry) .calls)) (now (answers .entry))
-            ++ fault-line (now (order .entry) .fault)) ⌝ }
+        ++ fault-line (now (order .entry) .fault)) ⌝ }
 {
     let mut text = Vec::new(heap);
     push_replies(&mut text, order.calls.as_slice(), answers)?;
@@ -69,17 +73,23 @@ pub fn run_order(
 ) -> Result<Vec<u8>, Refusal>
     ensures value { λ r. ⌜ Cases r
         (λ v. transcript (now (order .entry)) (now (window .entry)) (now (records .entry)) (now (answers .entry))
-            ≡ Ok (vec-items v))
+        ≡ Ok (vec-items v))
         (λ e. isSome (number-of e) ≡ true
-            → transcript (now (order .entry)) (now (window .entry)) (now (records .entry)) (now (answers .entry))
-            ≡ Err e) ⌝ }
+        → transcript (now (order .entry)) (now (window .entry)) (now (records .entry)) (now (answers .entry))
+        ≡ Err e) ⌝ }
     ensures law { λ r. ⌜ made r (λ _. Lawful-run (read-whole (now (order .entry))) (now (window .entry))
         (now (records .entry))) ⌝ }
 {
     match read_order(heap, order) {
         Ok(read) => {
             let mut memory = ByteMemory::new(window);
-            run_job(&read.plan, &mut memory, records, read.calls.as_slice(), answers)?;
+            run_job(
+                &read.plan,
+                &mut memory,
+                records,
+                read.calls.as_slice(),
+                answers,
+            )?;
             let text = tell_run(heap, &read, answers)?;
             Ok(text)
         }

@@ -11,7 +11,9 @@ use transcript::run::run_order;
 
 // The largest plan has 1,024 ranks, and with 256 elements 1,280 homes of 40 bytes; a call has three bytes.
 const WINDOW_BYTES: usize = 51200;
+
 const MOST_RANKS: usize = 1024;
+
 const MOST_CALLS: usize = 21845;
 
 fn main(rt: LibcRuntime) -> Result<(), AnyError> {
@@ -22,7 +24,13 @@ fn main(rt: LibcRuntime) -> Result<(), AnyError> {
         .take(LONGEST_ORDER as u64 + 1)
         .read_to_end(&mut order)?;
     let mut window = vec![in heap; 0u8; WINDOW_BYTES]?;
-    let idle = Record { place: 0, level: 0, home: 0, number: 0, counter: 0 };
+    let idle = Record {
+        place: 0,
+        level: 0,
+        home: 0,
+        number: 0,
+        counter: 0,
+    };
     let mut records = vec![in heap; idle; MOST_RANKS]?;
     let mut answers = vec![in heap; Err(Refusal::TooShort); MOST_CALLS]?;
     let text = run_order(

@@ -15,12 +15,12 @@ loop-i-again g c =
     let vs = g .M·ReadMemory .words (c .run-call .last .memory) in
     let i = c .loop-i .i in
     let e = c .run-call .ensures in
-    let cs = c .args .calls .now in
-    ( ran-more t cs i _ ws vs (c .loop-i .records) (c .run-call .last .records) (c .loop-i-test .taken) (e .words)
-      (e .records) _ (c .loop-i .inv .0)
-    , answers-more t cs i _ ws vs (c .loop-i .records) (c .run-call .last .records) (c .loop-i-test .taken) (e .words)
-      (e .records) (c .run-call .result) (c .loop-i .answers) _ (omega arith) (e .value) (c .loop-i .inv .1)
-    , behind-more (c .loop-i .answers) (c .args .answers .now) (c .run-call .result) i (c .loop-i .inv .2)
+    let cs = c .args .calls .now in (
+      ran-more t cs i _ ws vs (c .loop-i .records) (c .run-call .last .records) (c .loop-i-test .taken) (e .words)
+          (e .records) _ (c .loop-i .inv .0),
+      answers-more t cs i _ ws vs (c .loop-i .records) (c .run-call .last .records) (c .loop-i-test .taken) (e .words)
+          (e .records) (c .run-call .result) (c .loop-i .answers) _ (omega arith) (e .value) (c .loop-i .inv .1),
+      behind-more (c .loop-i .answers) (c .args .answers .now) (c .run-call .result) i (c .loop-i .inv .2),
     )
 
 pub returns : need.returns

@@ -15,7 +15,7 @@ returns c =
     let m = c .number-of .result in
     let e = c .put-decimal-behind .ensures in
     let same : length (decimal m) ≡ length (decimal (shown-number (c .args .refusal))) =
-        ap (λ n. length (decimal n)) (c .number-of .ensures)
+    ap (λ n. length (decimal n)) (c .number-of .ensures)
     in
     record {
       value = simp length-append (omega (arith, e .value, same));

@@ -20,20 +20,20 @@ returns c =
     let a = c .put-decimal-at .ensures in
     let b = c .put-decimal-behind .ensures in
     let same : length (decimal m) ≡ length (decimal (shown-number (f .refusal))) =
-        ap (λ n. length (decimal n)) (c .number-of .ensures)
+    ap (λ n. length (decimal n)) (c .number-of .ensures)
     in
     let n : c .put-decimal-behind .result + 1 ≡ length (bad-line f) =
-        simp length-append (omega (arith, a .value, b .value, same))
+    simp length-append (omega (arith, a .value, b .value, same))
     in
     let whole : c .put-3 .last .out ≡ overlaid (bad-line f) out =
-          (five-puts out (c .put .last .out) (c .put-decimal-at .last .out) (c .put-2 .last .out)
-          (c .put-decimal-behind .last .out) (c .put-3 .last .out) (codes "bad ") (decimal m) (codes " at ")
-          (decimal (f .offset)) (10 ∷ []) 4 (c .put-decimal-at .result) (c .put-decimal-at .result + 4)
-          (c .put-decimal-behind .result) (c .put .ensures) (a .buffer) (c .put-2 .ensures) (b .buffer)
-          (c .put-3 .ensures) (omega arith) (a .value) (omega arith) (b .value)
-          ∙ ap (λ x. pasted out 0 (codes "bad " ++ (decimal x ++ (codes " at " ++ (decimal (f .offset) ++ (10 ∷ []))))))
-          (c .number-of .ensures)
-          ∙ pasted-front out (bad-line f))
+    (five-puts out (c .put .last .out) (c .put-decimal-at .last .out) (c .put-2 .last .out)
+    (c .put-decimal-behind .last .out) (c .put-3 .last .out) (codes "bad ") (decimal m) (codes " at ")
+    (decimal (f .offset)) (10 ∷ []) 4 (c .put-decimal-at .result) (c .put-decimal-at .result + 4)
+    (c .put-decimal-behind .result) (c .put .ensures) (a .buffer) (c .put-2 .ensures) (b .buffer)
+    (c .put-3 .ensures) (omega arith) (a .value) (omega arith) (b .value)
+    ∙ ap (λ x. pasted out 0 (codes "bad " ++ (decimal x ++ (codes " at " ++ (decimal (f .offset) ++ (10 ∷ []))))))
+    (c .number-of .ensures)
+    ∙ pasted-front out (bad-line f))
     in
     record {
       value = rw (room, n);

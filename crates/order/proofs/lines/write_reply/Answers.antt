@@ -25,14 +25,14 @@ returns c =
     let e = c .put-reply-end .ensures in
     let same : length (decimal (c .rank-of .result)) ≡ length (decimal (rank call)) = ap (λ n. length (decimal n)) p in
     let n : c .put-reply-end .result ≡ length (reply-line call reply) =
-        simp length-append (omega (arith, d .value, e .value, same))
+    simp length-append (omega (arith, d .value, e .value, same))
     in
     let whole : c .put-reply-end .last .out ≡ overlaid (reply-line call reply) out =
-          (three-puts out (c .put .last .out) (c .put-decimal-at .last .out) (c .put-reply-end .last .out)
-          (c .letter-of .result ∷ 32 ∷ []) (decimal (c .rank-of .result)) (reply-words reply) 0 2
-          (c .put-decimal-at .result) (omega arith) (c .put .ensures) (d .buffer) (e .buffer) (omega arith) (d .value)
-          ∙ ap₂ (λ x y. pasted out 0 (x ∷ 32 ∷ (decimal y ++ reply-words reply))) l p
-          ∙ pasted-front out (reply-line call reply))
+    (three-puts out (c .put .last .out) (c .put-decimal-at .last .out) (c .put-reply-end .last .out)
+    (c .letter-of .result ∷ 32 ∷ []) (decimal (c .rank-of .result)) (reply-words reply) 0 2
+    (c .put-decimal-at .result) (omega arith) (c .put .ensures) (d .buffer) (e .buffer) (omega arith) (d .value)
+    ∙ ap₂ (λ x y. pasted out 0 (x ∷ 32 ∷ (decimal y ++ reply-words reply))) l p
+    ∙ pasted-front out (reply-line call reply))
     in
     record {
       value = rw (room, n);
