@@ -304,12 +304,12 @@ module _ (t : Tree) (G : Geometry t) (ws : Words) (rs : List Record) (w : Presen
   asks c p f d ok = subst (Some-kept t ws rs w h c) (sym d) (by (within 1 P p) refl)
     where
       by : (b : Bool) → within 1 P p ≡ b → Some-kept t ws rs w h c (with-words ws (asked t rs p f))
-      by false e =
-          stays c (with-words ws (asked t rs p f)) UnknownRank refl
+      by false e = stays c (with-words ws (asked t rs p f)) UnknownRank refl
           (ap (with-words ws) (no-turn p e (λ q. asked-at rs p f (standing-at q))))
-      by true e =
-          subst (λ x. Some-kept t ws rs w h c (with-words ws x))
-          (sym (turn-is p (on-of p e) (λ q. asked-at rs p f (standing-at q)))) (at (standing-at (s .place p)) refl)
+      by true e = subst
+          (λ x. Some-kept t ws rs w h c (with-words ws x))
+          (sym (turn-is p (on-of p e) (λ q. asked-at rs p f (standing-at q))))
+          (at (standing-at (s .place p)) refl)
         where
           at : (d : Standing) → standing-at (s .place p) ≡ d
               → Some-kept t ws rs w h c (with-words ws (asked-at rs p f d))
@@ -408,11 +408,11 @@ module _ (t : Tree) (G : Geometry t) (ws : Words) (rs : List Record) (w : Presen
   kept-leave p = by (within 1 P p) refl
     where
       by : (b : Bool) → within 1 P p ≡ b → Some-kept t ws rs w h (Leave p) (with-words ws (left t rs p))
-      by false e =
-          stays (Leave p) (with-words ws (left t rs p)) UnknownRank refl
+      by false e = stays (Leave p) (with-words ws (left t rs p)) UnknownRank refl
           (ap (with-words ws) (no-turn p e (λ q. left-at t rs p (standing-at q))))
-      by true e =
-          subst (λ x. Some-kept t ws rs w h (Leave p) (with-words ws x)) (sym (left-is p (on-of p e)))
+      by true e = subst
+          (λ x. Some-kept t ws rs w h (Leave p) (with-words ws x))
+          (sym (left-is p (on-of p e)))
           (at (standing-at (s .place p)) refl)
         where
           at : (d : Standing) → standing-at (s .place p) ≡ d

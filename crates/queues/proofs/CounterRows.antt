@@ -13,6 +13,7 @@ use Rattle.std.proofs.shelf.Tests.{cases-eq, cases-lt, cond-both, eq-eqb, ne-eq
 use Rattle.std.proofs.shelf.Tests.{ltb-true, ltb-false}
 use Rattle.queues.specs.Machine.{Tree, Lawful, On, wait, hold, give, hold-level, InRange, Waits, Inv}
 use Rattle.queues.specs.Table.{Place, Idle, W1, W2, W3, W4, W5, W6, W7, W8, W9, U1, U2, U3, U4, U5, U6, U7, U8, U9}
+use Rattle.queues.specs.Table.{with-counts, with-statuses}
 use Rattle.queues.specs.Table.{U10, R1, R2, R3, R4, R5, R6, R7, Writer, Reader, WAIT, told-status, Plan, Lock, upd}
 use Rattle.queues.specs.Table.{phase-of, status-level, phase, view, Sound, go, put-status, free, done, next, row}
 use Rattle.queues.specs.Counters.{total, pick, Load, none, trying, inside, carrying, clearing, tries, admits, clears}
@@ -118,40 +119,17 @@ module _ (P : ℕ) (L : Plan) (sensible : Sensible P L) (s : Lock) (bit : ℕ �
   still : (statuses : ℕ → ℕ) (p : ℕ) (g : Place) → gate-of g (statuses (T .node p (status-level g))) ≡ gate T s p
       → load-of (L .home p) g ≡ load-of (L .home p) (s .place p)
       → ((q : ℕ) → q ≢ p → gate-of (s .place q) (statuses (T .node q (status-level (s .place q)))) ≡ gate T s q)
-      → Counted P C (L .reader-threshold)
-      (tally L
-      (record {
-        place = upd (s .place) p g;
-        nexts = s .nexts;
-        statuses = statuses;
-        tails = s .tails;
-        arrives = s .arrives;
-        departs = s .departs;
-        node-at = s .node-at;
-        head-turn = s .head-turn;
-        next-turn = s .next-turn;
-      })
-      bit)
+      → Counted P C (L .reader-threshold) (tally L (go (with-statuses s statuses) p g) bit)
   still statuses p g x y z = tallied P C (L .reader-threshold) (tally L s bit)
-      (tally L
-      (record {
-        place = upd (s .place) p g;
-        nexts = s .nexts;
-        statuses = statuses;
-        tails = s .tails;
-        arrives = s .arrives;
-        departs = s .departs;
-        node-at = s .node-at;
-        head-turn = s .head-turn;
-        next-turn = s .next-turn;
-      })
-      bit)
+      (tally L (go (with-statuses s statuses) p g) bit)
       (split p
       (λ q. load-of (L .home q) (s .place q) ≡ load-of (L .home q) (upd (s .place) p g q))
       (rw (upd-same (s .place) p g) (sym y))
       (λ q a. rw (upd-other (s .place) p g q a)))
       (split p
-      (λ q. gate T s q ≡ gate-of (upd (s .place) p g q) (statuses (T .node q (status-level (upd (s .place) p g q)))))
+      (λ q.
+      gate T s q
+      ≡ gate-of (upd (s .place) p g q) (statuses (T .node q (status-level (upd (s .place) p g q)))))
       (rw (upd-same (s .place) p g) (sym x))
       (λ q a. rw (upd-other (s .place) p g q a) (sym (z q a))))
       (λ c. refl)
@@ -201,36 +179,10 @@ module _ (P : ℕ) (L : Plan) (sensible : Sensible P L) (s : Lock) (bit : ℕ �
         arrives = arrives;
         departs = departs;
         bit = bit;
-      })
-      → Counted P C (L .reader-threshold)
-      (tally L
-      (record {
-        place = upd (s .place) p g;
-        nexts = s .nexts;
-        statuses = s .statuses;
-        tails = s .tails;
-        arrives = arrives;
-        departs = departs;
-        node-at = s .node-at;
-        head-turn = s .head-turn;
-        next-turn = s .next-turn;
-      })
-      bit)
+      }) → Counted P C (L .reader-threshold) (tally L (go (with-counts s arrives departs) p g) bit)
   after p g arrives departs x w = tallied P C (L .reader-threshold)
       (record { load = load′ p g; gate = gate T s; arrives = arrives; departs = departs; bit = bit })
-      (tally L
-      (record {
-        place = upd (s .place) p g;
-        nexts = s .nexts;
-        statuses = s .statuses;
-        tails = s .tails;
-        arrives = arrives;
-        departs = departs;
-        node-at = s .node-at;
-        head-turn = s .head-turn;
-        next-turn = s .next-turn;
-      })
-      bit)
+      (tally L (go (with-counts s arrives departs) p g) bit)
       (λ q. refl)
       (split p
       (λ q.
@@ -256,20 +208,7 @@ module _ (P : ℕ) (L : Plan) (sensible : Sensible P L) (s : Lock) (bit : ℕ �
       ≤ s .departs c + admits (load-of (L .home p) f) c + clears (load-of (L .home p) f) c
       → departs c + admits (load-of (L .home p) g) c ≤ s .departs c + admits (load-of (L .home p) f) c
       → ((d : ℕ) → load-of (L .home p) g ≢ inside d)
-      → Counted P C (L .reader-threshold)
-      (tally L
-      (record {
-        place = upd (s .place) p g;
-        nexts = s .nexts;
-        statuses = s .statuses;
-        tails = s .tails;
-        arrives = arrives;
-        departs = departs;
-        node-at = s .node-at;
-        head-turn = s .head-turn;
-        next-turn = s .next-turn;
-      })
-      bit)
+      → Counted P C (L .reader-threshold) (tally L (go (with-counts s arrives departs) p g) bit)
   drain p c f g arrives departs on e gt lc x y fl fa fr ou = after p g arrives departs gt
       (drained P C (L .reader-threshold) (tally L s bit) (v .counted) p c on (load′ p g) arrives departs (record {
         shift = shift p c f g arrives departs e lc x y;
@@ -379,17 +318,10 @@ module _ (P : ℕ) (L : Plan) (sensible : Sensible P L) (s : Lock) (bit : ℕ �
       by : (b : Bool) → ltb (s .arrives (L .home p)) (L .reader-threshold) ≡ b
           → Counted P C (L .reader-threshold)
           (tally L
-          (record {
-            place = upd (s .place) p (cond b Reader R2);
-            nexts = s .nexts;
-            statuses = s .statuses;
-            tails = s .tails;
-            arrives = upd (s .arrives) (L .home p) (suc (s .arrives (L .home p)));
-            departs = s .departs;
-            node-at = s .node-at;
-            head-turn = s .head-turn;
-            next-turn = s .next-turn;
-          })
+          (go
+          (with-counts s (upd (s .arrives) (L .home p) (suc (s .arrives (L .home p))))
+          (s .departs))
+          p (cond b Reader R2))
           bit)
       by true z = after p Reader (upd (s .arrives) (L .home p) (suc (s .arrives (L .home p)))) (s .departs)
           (sym (gate-at T s p R1 e))
@@ -446,33 +378,9 @@ module _ (P : ℕ) (L : Plan) (sensible : Sensible P L) (s : Lock) (bit : ℕ �
       → ((c : ℕ) → c < C → bit′ c ≡ 1 → Marks h c)
       → ((c : ℕ) → c < C → Keeps h c → (q : ℕ) → On P q → load′ p g q ≢ inside c)
       → ((j n : ℕ) → h ≡ reading j n → write-bit + s .departs j + total P (λ q. admits (load′ p g q) j) ≤ n)
-      → Counted P C (L .reader-threshold)
-      (tally L
-      (record {
-        place = upd (s .place) p g;
-        nexts = s .nexts;
-        statuses = s .statuses;
-        tails = s .tails;
-        arrives = arrives;
-        departs = s .departs;
-        node-at = s .node-at;
-        head-turn = s .head-turn;
-        next-turn = s .next-turn;
-      })
-      bit′)
+      → Counted P C (L .reader-threshold) (tally L (go (with-counts s arrives (s .departs)) p g) bit′)
   flip p k f g arrives bit′ on o e lv lc x y bs fl fa h gh mk sd kp ss =
-      let s₁ : Lock =
-      record {
-        place = s .place;
-        nexts = s .nexts;
-        statuses = s .statuses;
-        tails = s .tails;
-        arrives = arrives;
-        departs = s .departs;
-        node-at = s .node-at;
-        head-turn = s .head-turn;
-        next-turn = s .next-turn;
-      } in
+      let s₁ : Lock = with-counts s arrives (s .departs) in
       let now : gate T (go s₁ p g) p ≡ h = gate-now T s₁ p g ∙ gh in
       flipped P C (L .reader-threshold) (tally L s bit) (v .counted) p k on (tally L (go s₁ p g) bit′) (record {
         shift = shift p k f g arrives (s .departs) e lc x (λ d ne. refl);
@@ -651,18 +559,7 @@ module _ (P : ℕ) (L : Plan) (sensible : Sensible P L) (s : Lock) (bit : ℕ �
           → gate-of q (s .statuses (T .node p (status-level q))) ≡ h → ((c : ℕ) → c < C → Marks h c → c < suc k)
           → ((c : ℕ) → c < C → c < suc k → Marks h c) → ((c : ℕ) → Keeps h c → ⊥) → ((j n : ℕ) → h ≡ reading j n → ⊥)
           → Counted P C (L .reader-threshold)
-          (tally L
-          (record {
-            place = upd (s .place) p q;
-            nexts = s .nexts;
-            statuses = s .statuses;
-            tails = s .tails;
-            arrives = upd (s .arrives) k (s .arrives k + 2 ^ 62);
-            departs = s .departs;
-            node-at = s .node-at;
-            head-turn = s .head-turn;
-            next-turn = s .next-turn;
-          })
+          (tally L (go (with-counts s (upd (s .arrives) k (s .arrives k + 2 ^ 62)) (s .departs)) p q)
           (upd bit k 1))
       at q h lq gq a b c d = flip p k (W7 k) q (upd (s .arrives) k (s .arrives k + 2 ^ 62)) (upd bit k 1) on o e lv
           (λ d ne. rw lq (refl, refl, refl))
@@ -681,17 +578,8 @@ module _ (P : ℕ) (L : Plan) (sensible : Sensible P L) (s : Lock) (bit : ℕ �
       by : (b : Bool) → ltb (suc k) C ≡ b
           → Counted P C (L .reader-threshold)
           (tally L
-          (record {
-            place = upd (s .place) p (cond b (W7 (suc k)) (W8 0));
-            nexts = s .nexts;
-            statuses = s .statuses;
-            tails = s .tails;
-            arrives = upd (s .arrives) k (s .arrives k + 2 ^ 62);
-            departs = s .departs;
-            node-at = s .node-at;
-            head-turn = s .head-turn;
-            next-turn = s .next-turn;
-          })
+          (go (with-counts s (upd (s .arrives) k (s .arrives k + 2 ^ 62)) (s .departs)) p
+          (cond b (W7 (suc k)) (W8 0)))
           (upd bit k 1))
       by true z = at (W7 (suc k)) (raising (suc k)) refl refl
           (λ c m w. w)
@@ -739,18 +627,7 @@ module _ (P : ℕ) (L : Plan) (sensible : Sensible P L) (s : Lock) (bit : ℕ �
           → gate-of q (s .statuses (T .node p (status-level q))) ≡ h → ((c : ℕ) → c < C → Marks h c → suc k ≤ c)
           → ((c : ℕ) → c < C → suc k ≤ c → Marks h c) → ((c : ℕ) → Keeps h c → ⊥) → ((j n : ℕ) → h ≡ reading j n → ⊥)
           → Counted P C (L .reader-threshold)
-          (tally L
-          (record {
-            place = upd (s .place) p q;
-            nexts = s .nexts;
-            statuses = s .statuses;
-            tails = s .tails;
-            arrives = upd (s .arrives) k (s .arrives k - (2 ^ 62 + n));
-            departs = s .departs;
-            node-at = s .node-at;
-            head-turn = s .head-turn;
-            next-turn = s .next-turn;
-          })
+          (tally L (go (with-counts s (upd (s .arrives) k (s .arrives k - (2 ^ 62 + n))) (s .departs)) p q)
           (upd bit k 0))
       at q h lq gq a b c d = flip p k (U7 k n) q (upd (s .arrives) k (s .arrives k - (2 ^ 62 + n))) (upd bit k 0) on o
           e lv
@@ -778,17 +655,8 @@ module _ (P : ℕ) (L : Plan) (sensible : Sensible P L) (s : Lock) (bit : ℕ �
       by : (b : Bool) → ltb (suc k) C ≡ b
           → Counted P C (L .reader-threshold)
           (tally L
-          (record {
-            place = upd (s .place) p (cond b (U6 (suc k)) (U8 1));
-            nexts = s .nexts;
-            statuses = s .statuses;
-            tails = s .tails;
-            arrives = upd (s .arrives) k (s .arrives k - (2 ^ 62 + n));
-            departs = s .departs;
-            node-at = s .node-at;
-            head-turn = s .head-turn;
-            next-turn = s .next-turn;
-          })
+          (go (with-counts s (upd (s .arrives) k (s .arrives k - (2 ^ 62 + n))) (s .departs)) p
+          (cond b (U6 (suc k)) (U8 1)))
           (upd bit k 0))
       by true z = at (U6 (suc k)) (lowering (suc k)) refl refl
           (λ c m w. w)

@@ -13,6 +13,7 @@ use Rattle.std.proofs.shelf.Tests.{ltb-true}
 use Rattle.queues.specs.Machine.{Tree, Lawful, On, Phase, out, fresh, clean, ready, link, wait, hold, give}
 use Rattle.queues.specs.Machine.{hold-level, InRange, Waits, Calm, Asks, Inv}
 use Rattle.queues.specs.Table.{Place, Idle, W1, W2, W3, W4, W5, W6, W7, W8, W9, U1, U2, U3, U4, U5, U6, U7, U8, U9}
+use Rattle.queues.specs.Table.{with-counts}
 use Rattle.queues.specs.Table.{U10, R1, R2, R3, R4, R5, R6, R7, Writer, Reader, WAIT, told-status, Plan, Lock, upd}
 use Rattle.queues.specs.Table.{phase-of, status-level, phase, view, Counts, Sound, Fine, go, put-status, join, drop}
 use Rattle.queues.specs.Table.{free, done, next, row}
@@ -148,17 +149,7 @@ module _ (L : Plan) (G : Lawful (L .tree)) (small : (q j : ℕ) → L .hand-over
       → ((j : ℕ) → Waits (phase T s p) j → ⊥)
       → Asks T (prepared (view T s) (phase T (go s p g)) (s .nexts)) p
       (phase-of g (s .statuses (T .node p (status-level g)))) → Sound L (s .statuses) p g
-      → Fine L (record {
-        place = upd (s .place) p g;
-        nexts = s .nexts;
-        statuses = s .statuses;
-        tails = s .tails;
-        arrives = arrives;
-        departs = departs;
-        node-at = s .node-at;
-        head-turn = s .head-turn;
-        next-turn = s .next-turn;
-      })
+      → Fine L (go (with-counts s arrives departs) p g)
   moved p g arrives departs lv rg ws ak so =
       let now : phase T (go s p g) p ≡ phase-of g (s .statuses (T .node p (status-level g))) = phase-now T s p g in
       record {
@@ -492,18 +483,7 @@ module _ (L : Plan) (G : Lawful (L .tree)) (small : (q j : ℕ) → L .hand-over
   -- a move that leaves the phase alone
   quiet : (p : ℕ) (g : Place) (arrives departs : ℕ → ℕ)
       → phase-of g (s .statuses (T .node p (status-level g))) ≡ phase T s p → Calm (phase T s p)
-      → Sound L (s .statuses) p g
-      → Fine L (record {
-        place = upd (s .place) p g;
-        nexts = s .nexts;
-        statuses = s .statuses;
-        tails = s .tails;
-        arrives = arrives;
-        departs = departs;
-        node-at = s .node-at;
-        head-turn = s .head-turn;
-        next-turn = s .next-turn;
-      })
+      → Sound L (s .statuses) p g → Fine L (go (with-counts s arrives departs) p g)
   quiet p g arrives departs e c so = moved p g arrives departs (ap (hold-level (T .own-level p)) e)
       (rw e (inv .range p)) (calm-waits (phase T s p) c)
       (calm-asks T (prepared (view T s) (phase T (go s p g)) (s .nexts)) p
@@ -578,17 +558,7 @@ module _ (L : Plan) (G : Lawful (L .tree)) (small : (q j : ℕ) → L .hand-over
   At f p g = ((w : ℕ) → phase-of g w ≡ f) × Sound L (s .statuses) p g
 
   to : (f : Phase) → Calm f → (p : ℕ) → phase T s p ≡ f → (g : Place) (arrives departs : ℕ → ℕ) → At f p g
-      → Fine L (record {
-        place = upd (s .place) p g;
-        nexts = s .nexts;
-        statuses = s .statuses;
-        tails = s .tails;
-        arrives = arrives;
-        departs = departs;
-        node-at = s .node-at;
-        head-turn = s .head-turn;
-        next-turn = s .next-turn;
-      })
+      → Fine L (go (with-counts s arrives departs) p g)
   to f c p was g arrives departs h =
       quiet p g arrives departs (h .0 (s .statuses (T .node p (status-level g))) ∙ sym was) (rw was c) (h .1)
 

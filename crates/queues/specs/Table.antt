@@ -61,6 +61,36 @@ go s p f =
       next-turn = s .next-turn;
     }
 
+-- other STATUS words
+abbrev pub with-statuses : Lock → (ℕ → ℕ) → Lock
+with-statuses s statuses =
+    record {
+      place = s .place;
+      nexts = s .nexts;
+      statuses = statuses;
+      tails = s .tails;
+      arrives = s .arrives;
+      departs = s .departs;
+      node-at = s .node-at;
+      head-turn = s .head-turn;
+      next-turn = s .next-turn;
+    }
+
+-- other ARRIVE and DEPART words
+abbrev pub with-counts : Lock → (ℕ → ℕ) → (ℕ → ℕ) → Lock
+with-counts s arrives departs =
+    record {
+      place = s .place;
+      nexts = s .nexts;
+      statuses = s .statuses;
+      tails = s .tails;
+      arrives = arrives;
+      departs = departs;
+      node-at = s .node-at;
+      head-turn = s .head-turn;
+      next-turn = s .next-turn;
+    }
+
 -- one word is written
 abbrev pub put-next : Lock → ℕ → ℕ → Lock
 put-next s h v =
@@ -77,18 +107,7 @@ put-next s h v =
     }
 
 abbrev pub put-status : Lock → ℕ → ℕ → Lock
-put-status s h v =
-    record {
-      place = s .place;
-      nexts = s .nexts;
-      statuses = upd (s .statuses) h v;
-      tails = s .tails;
-      arrives = s .arrives;
-      departs = s .departs;
-      node-at = s .node-at;
-      head-turn = s .head-turn;
-      next-turn = s .next-turn;
-    }
+put-status s h v = with-statuses s (upd (s .statuses) h v)
 
 -- node x joins the queue of k at its next turn, and is its tail
 abbrev pub join : Lock → ℕ → ℕ → Lock
@@ -136,32 +155,10 @@ free s k =
     }
 
 abbrev pub put-arrive : Lock → ℕ → ℕ → Lock
-put-arrive s c v =
-    record {
-      place = s .place;
-      nexts = s .nexts;
-      statuses = s .statuses;
-      tails = s .tails;
-      arrives = upd (s .arrives) c v;
-      departs = s .departs;
-      node-at = s .node-at;
-      head-turn = s .head-turn;
-      next-turn = s .next-turn;
-    }
+put-arrive s c v = with-counts s (upd (s .arrives) c v) (s .departs)
 
 abbrev pub put-depart : Lock → ℕ → ℕ → Lock
-put-depart s c v =
-    record {
-      place = s .place;
-      nexts = s .nexts;
-      statuses = s .statuses;
-      tails = s .tails;
-      arrives = s .arrives;
-      departs = upd (s .departs) c v;
-      node-at = s .node-at;
-      head-turn = s .head-turn;
-      next-turn = s .next-turn;
-    }
+put-depart s c v = with-counts s (s .arrives) (upd (s .departs) c v)
 
 module _ (L : Plan) (s : Lock) (p : ℕ) where
   -- the rank's node and element at a level, and its counter
