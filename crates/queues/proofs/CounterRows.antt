@@ -13,9 +13,9 @@ use Rattle.std.proofs.shelf.Tests.{cases-eq, cases-lt, cond-both, eq-eqb, ne-eq
 use Rattle.std.proofs.shelf.Tests.{ltb-true, ltb-false}
 use Rattle.queues.specs.Machine.{Tree, Lawful, On, wait, hold, give, hold-level, InRange, Waits, Inv}
 use Rattle.queues.specs.Table.{Place, Idle, W1, W2, W3, W4, W5, W6, W7, W8, W9, U1, U2, U3, U4, U5, U6, U7, U8, U9}
-use Rattle.queues.specs.Table.{with-counts, with-statuses}
-use Rattle.queues.specs.Table.{U10, R1, R2, R3, R4, R5, R6, R7, Writer, Reader, WAIT, told-status, Plan, Lock, upd}
-use Rattle.queues.specs.Table.{phase-of, status-level, phase, view, Sound, go, put-status, free, done, next, row}
+use Rattle.queues.specs.Table.{with-counts, with-statuses, put-arrive, U10, R1, R2, R3, R4, R5, R6, R7, Writer}
+use Rattle.queues.specs.Table.{Reader, WAIT, told-status, Plan, Lock, upd, phase-of, status-level, phase, view, Sound}
+use Rattle.queues.specs.Table.{go, put-status, free, done, next, row}
 use Rattle.queues.specs.Counters.{total, pick, Load, none, trying, inside, carrying, clearing, tries, admits, clears}
 use Rattle.queues.specs.Counters.{Gate, shut, raising, checking, reading, wide, lowering, Marks, Keeps, Tally}
 use Rattle.queues.specs.Counters.{write-bit, Counted}
@@ -94,6 +94,10 @@ module _ (P : ℕ) (L : Plan) (sensible : Sensible P L) (s : Lock) (bit : ℕ �
   abbrev inv : Inv T (view T s)
   inv = v .fine .queues
 
+  -- the counters of a lock are right
+  abbrev Right : Lock → (ℕ → ℕ) → Type 0
+  Right s bit = Counted P C (L .reader-threshold) (tally L s bit)
+
   -- while p holds the whole machine, all other gates are shut
   alone : (p : ℕ) → On (T .own-level p) 1 → hold-level (T .own-level p) (phase T s p) ≤ 1 → (q : ℕ) → q ≢ p
       → gate T s q ≡ shut
@@ -119,7 +123,7 @@ module _ (P : ℕ) (L : Plan) (sensible : Sensible P L) (s : Lock) (bit : ℕ �
   still : (statuses : ℕ → ℕ) (p : ℕ) (g : Place) → gate-of g (statuses (T .node p (status-level g))) ≡ gate T s p
       → load-of (L .home p) g ≡ load-of (L .home p) (s .place p)
       → ((q : ℕ) → q ≢ p → gate-of (s .place q) (statuses (T .node q (status-level (s .place q)))) ≡ gate T s q)
-      → Counted P C (L .reader-threshold) (tally L (go (with-statuses s statuses) p g) bit)
+      → Right (go (with-statuses s statuses) p g) bit
   still statuses p g x y z = tallied P C (L .reader-threshold) (tally L s bit)
       (tally L (go (with-statuses s statuses) p g) bit)
       (split p
@@ -179,7 +183,7 @@ module _ (P : ℕ) (L : Plan) (sensible : Sensible P L) (s : Lock) (bit : ℕ �
         arrives = arrives;
         departs = departs;
         bit = bit;
-      }) → Counted P C (L .reader-threshold) (tally L (go (with-counts s arrives departs) p g) bit)
+      }) → Right (go (with-counts s arrives departs) p g) bit
   after p g arrives departs x w = tallied P C (L .reader-threshold)
       (record { load = load′ p g; gate = gate T s; arrives = arrives; departs = departs; bit = bit })
       (tally L (go (with-counts s arrives departs) p g) bit)
@@ -207,8 +211,7 @@ module _ (P : ℕ) (L : Plan) (sensible : Sensible P L) (s : Lock) (bit : ℕ �
       → departs c + admits (load-of (L .home p) g) c + clears (load-of (L .home p) g) c
       ≤ s .departs c + admits (load-of (L .home p) f) c + clears (load-of (L .home p) f) c
       → departs c + admits (load-of (L .home p) g) c ≤ s .departs c + admits (load-of (L .home p) f) c
-      → ((d : ℕ) → load-of (L .home p) g ≢ inside d)
-      → Counted P C (L .reader-threshold) (tally L (go (with-counts s arrives departs) p g) bit)
+      → ((d : ℕ) → load-of (L .home p) g ≢ inside d) → Right (go (with-counts s arrives departs) p g) bit
   drain p c f g arrives departs on e gt lc x y fl fa fr ou = after p g arrives departs gt
       (drained P C (L .reader-threshold) (tally L s bit) (v .counted) p c on (load′ p g) arrives departs (record {
         shift = shift p c f g arrives departs e lc x y;
@@ -223,7 +226,7 @@ module _ (P : ℕ) (L : Plan) (sensible : Sensible P L) (s : Lock) (bit : ℕ �
   none-inside d e = let z : _≡_ {A = ℕ} 0 1 = cc in omega arith
 
   -- R2 takes itself out again
-  count-R2 : (p : ℕ) → On P p → s .place p ≡ R2 → Counted P C (L .reader-threshold) (tally L (row L s p R2) bit)
+  count-R2 : (p : ℕ) → On P p → s .place p ≡ R2 → Right (row L s p R2) bit
   count-R2 p on e =
       let c = L .home p in
       let k = pick-same c 1 in
@@ -239,7 +242,7 @@ module _ (P : ℕ) (L : Plan) (sensible : Sensible P L) (s : Lock) (bit : ℕ �
       none-inside
 
   -- R5 takes DEPART
-  count-R5 : (p : ℕ) → On P p → s .place p ≡ R5 → Counted P C (L .reader-threshold) (tally L (row L s p R5) bit)
+  count-R5 : (p : ℕ) → On P p → s .place p ≡ R5 → Right (row L s p R5) bit
   count-R5 p on e =
       let c = L .home p in
       let n = s .departs c in
@@ -255,8 +258,7 @@ module _ (P : ℕ) (L : Plan) (sensible : Sensible P L) (s : Lock) (bit : ℕ �
       (λ d e. let z : _≡_ {A = ℕ} 0 1 = cc in omega arith)
 
   -- R6 takes the same out of ARRIVE
-  count-R6 : (p n : ℕ) → On P p → s .place p ≡ R6 n
-      → Counted P C (L .reader-threshold) (tally L (row L s p (R6 n)) bit)
+  count-R6 : (p n : ℕ) → On P p → s .place p ≡ R6 n → Right (row L s p (R6 n)) bit
   count-R6 p n on e =
       let c = L .home p in
       let k = pick-same c n in
@@ -272,7 +274,7 @@ module _ (P : ℕ) (L : Plan) (sensible : Sensible P L) (s : Lock) (bit : ℕ �
       none-inside
 
   -- R7 counts itself among the departed
-  count-R7 : (p : ℕ) → On P p → s .place p ≡ R7 → Counted P C (L .reader-threshold) (tally L (row L s p R7) bit)
+  count-R7 : (p : ℕ) → On P p → s .place p ≡ R7 → Right (row L s p R7) bit
   count-R7 p on e =
       let c = L .home p in
       let k = pick-same c 1 in
@@ -287,7 +289,7 @@ module _ (P : ℕ) (L : Plan) (sensible : Sensible P L) (s : Lock) (bit : ℕ �
       none-inside
 
   -- a reader leaves
-  count-leave : (p : ℕ) → On P p → s .place p ≡ Reader → Counted P C (L .reader-threshold) (tally L (go s p R7) bit)
+  count-leave : (p : ℕ) → On P p → s .place p ≡ Reader → Right (go s p R7) bit
   count-leave p on e =
       let c = L .home p in
       drain p c Reader R7 (s .arrives) (s .departs) on e (sym (gate-at T s p Reader e))
@@ -300,7 +302,7 @@ module _ (P : ℕ) (L : Plan) (sensible : Sensible P L) (s : Lock) (bit : ℕ �
       (λ d e. let z : _≡_ {A = ℕ} 0 1 = cc in omega arith)
 
   -- R1 enters, or counts itself among the refused
-  count-R1 : (p : ℕ) → On P p → s .place p ≡ R1 → Counted P C (L .reader-threshold) (tally L (row L s p R1) bit)
+  count-R1 : (p : ℕ) → On P p → s .place p ≡ R1 → Right (row L s p R1) bit
   count-R1 p on e = by (ltb (s .arrives c) (L .reader-threshold)) refl
     where
       c : ℕ
@@ -316,13 +318,10 @@ module _ (P : ℕ) (L : Plan) (sensible : Sensible P L) (s : Lock) (bit : ℕ �
       u = upd-same (s .arrives) (L .home p) (suc (s .arrives (L .home p)))
 
       by : (b : Bool) → ltb (s .arrives (L .home p)) (L .reader-threshold) ≡ b
-          → Counted P C (L .reader-threshold)
-          (tally L
-          (go
-          (with-counts s (upd (s .arrives) (L .home p) (suc (s .arrives (L .home p))))
-          (s .departs))
-          p (cond b Reader R2))
-          bit)
+          → Right
+          (go (put-arrive s (L .home p) (suc (s .arrives (L .home p)))) p
+          (cond b Reader R2))
+          bit
       by true z = after p Reader (upd (s .arrives) (L .home p) (suc (s .arrives (L .home p)))) (s .departs)
           (sym (gate-at T s p R1 e))
           (entered P C (L .reader-threshold) (sensible .threshold-fits) (tally L s bit) (v .counted) p (L .home p)
@@ -349,8 +348,7 @@ module _ (P : ℕ) (L : Plan) (sensible : Sensible P L) (s : Lock) (bit : ℕ �
           (λ d e. let z : _≡_ {A = ℕ} 0 1 = cc in omega arith)
 
   -- U6 takes DEPART
-  count-U6 : (p n : ℕ) → On P p → s .place p ≡ U6 n
-      → Counted P C (L .reader-threshold) (tally L (row L s p (U6 n)) bit)
+  count-U6 : (p n : ℕ) → On P p → s .place p ≡ U6 n → Right (row L s p (U6 n)) bit
   count-U6 p n on e =
       let m = s .departs n in
       let k = pick-same n m in
@@ -378,7 +376,7 @@ module _ (P : ℕ) (L : Plan) (sensible : Sensible P L) (s : Lock) (bit : ℕ �
       → ((c : ℕ) → c < C → bit′ c ≡ 1 → Marks h c)
       → ((c : ℕ) → c < C → Keeps h c → (q : ℕ) → On P q → load′ p g q ≢ inside c)
       → ((j n : ℕ) → h ≡ reading j n → write-bit + s .departs j + total P (λ q. admits (load′ p g q) j) ≤ n)
-      → Counted P C (L .reader-threshold) (tally L (go (with-counts s arrives (s .departs)) p g) bit′)
+      → Right (go (with-counts s arrives (s .departs)) p g) bit′
   flip p k f g arrives bit′ on o e lv lc x y bs fl fa h gh mk sd kp ss =
       let s₁ : Lock = with-counts s arrives (s .departs) in
       let now : gate T (go s₁ p g) p ≡ h = gate-now T s₁ p g ∙ gh in
@@ -423,7 +421,7 @@ module _ (P : ℕ) (L : Plan) (sensible : Sensible P L) (s : Lock) (bit : ℕ �
       → ((c : ℕ) → c < C → Marks h c → Marks (gate T s p) c) → ((c : ℕ) → c < C → Marks (gate T s p) c → Marks h c)
       → ((c : ℕ) → c < C → Keeps h c → (q : ℕ) → On P q → load q ≢ inside c)
       → ((j n : ℕ) → h ≡ reading j n → write-bit + s .departs j + total P (λ q. admits (load q) j) ≤ n)
-      → Counted P C (L .reader-threshold) (tally L (go s p g) bit)
+      → Right (go s p g) bit
   turn p f g on o e lv lf lg h gh mk sd kp ss =
       let same : (q : ℕ) → load′ p g q ≡ load q =
       split p
@@ -461,8 +459,7 @@ module _ (P : ℕ) (L : Plan) (sensible : Sensible P L) (s : Lock) (bit : ℕ �
   level-1 p f e h = rw (phase-at T s p f e, h (s .statuses (T .node p (status-level f)))) (omega arith)
 
   -- W8 reads ARRIVE: it covers all inside, since the bit stands
-  count-W8 : (p k : ℕ) → On P p → On (T .own-level p) 1 → k < C → s .place p ≡ W8 k
-      → Counted P C (L .reader-threshold) (tally L (row L s p (W8 k)) bit)
+  count-W8 : (p k : ℕ) → On P p → On (T .own-level p) 1 → k < C → s .place p ≡ W8 k → Right (row L s p (W8 k)) bit
   count-W8 p k on o l e =
       let g = gate-at T s p (W8 k) e in
       turn p (W8 k) (W9 k (s .arrives k)) on o e (level-1 p (W8 k) e (λ w. refl)) refl refl (reading k (s .arrives k))
@@ -481,7 +478,7 @@ module _ (P : ℕ) (L : Plan) (sensible : Sensible P L) (s : Lock) (bit : ℕ �
 
   -- W9 goes on where nobody is in, and reads again elsewhere
   count-W9 : (p k n : ℕ) → On P p → On (T .own-level p) 1 → k < C → s .place p ≡ W9 k n
-      → Counted P C (L .reader-threshold) (tally L (row L s p (W9 k n)) bit)
+      → Right (row L s p (W9 k n)) bit
   count-W9 p k n on o l e = by (eqb n (2 ^ 62 + s .departs k)) (ltb (suc k) C) refl refl
     where
       g : gate T s p ≡ reading k n
@@ -501,7 +498,7 @@ module _ (P : ℕ) (L : Plan) (sensible : Sensible P L) (s : Lock) (bit : ℕ �
           (cases-eq c k)
 
       by : (a b : Bool) → eqb n (2 ^ 62 + s .departs k) ≡ a → ltb (suc k) C ≡ b
-          → Counted P C (L .reader-threshold) (tally L (go s p (cond a (cond b (W8 (suc k)) Writer) (W8 k))) bit)
+          → Right (go s p (cond a (cond b (W8 (suc k)) Writer) (W8 k))) bit
       by true true x y = turn p (W9 k n) (W8 (suc k)) on o e (level-1 p (W9 k n) e (λ w. refl)) refl refl
           (checking (suc k)) refl
           (λ c m w. rw g tt)
@@ -521,7 +518,7 @@ module _ (P : ℕ) (L : Plan) (sensible : Sensible P L) (s : Lock) (bit : ℕ �
 
   -- W7 sets a write bit
   count-W7 : (p k : ℕ) → On P p → On (T .own-level p) 1 → k < C → s .place p ≡ W7 k
-      → Counted P C (L .reader-threshold) (tally L (row L s p (W7 k)) (upd bit k 1))
+      → Right (row L s p (W7 k)) (upd bit k 1)
   count-W7 p k on o l e = by (ltb (suc k) C) refl
     where
       g : gate T s p ≡ raising k
@@ -558,9 +555,7 @@ module _ (P : ℕ) (L : Plan) (sensible : Sensible P L) (s : Lock) (bit : ℕ �
       at : (q : Place) (h : Gate) → load-of (L .home p) q ≡ none
           → gate-of q (s .statuses (T .node p (status-level q))) ≡ h → ((c : ℕ) → c < C → Marks h c → c < suc k)
           → ((c : ℕ) → c < C → c < suc k → Marks h c) → ((c : ℕ) → Keeps h c → ⊥) → ((j n : ℕ) → h ≡ reading j n → ⊥)
-          → Counted P C (L .reader-threshold)
-          (tally L (go (with-counts s (upd (s .arrives) k (s .arrives k + 2 ^ 62)) (s .departs)) p q)
-          (upd bit k 1))
+          → Right (go (put-arrive s k (s .arrives k + 2 ^ 62)) p q) (upd bit k 1)
       at q h lq gq a b c d = flip p k (W7 k) q (upd (s .arrives) k (s .arrives k + 2 ^ 62)) (upd bit k 1) on o e lv
           (λ d ne. rw lq (refl, refl, refl))
           (λ d ne. upd-other (s .arrives) k (s .arrives k + 2 ^ 62) d ne)
@@ -576,11 +571,10 @@ module _ (P : ℕ) (L : Plan) (sensible : Sensible P L) (s : Lock) (bit : ℕ �
           (λ j n w. absurd (d j n w))
 
       by : (b : Bool) → ltb (suc k) C ≡ b
-          → Counted P C (L .reader-threshold)
-          (tally L
-          (go (with-counts s (upd (s .arrives) k (s .arrives k + 2 ^ 62)) (s .departs)) p
+          → Right
+          (go (put-arrive s k (s .arrives k + 2 ^ 62)) p
           (cond b (W7 (suc k)) (W8 0)))
-          (upd bit k 1))
+          (upd bit k 1)
       by true z = at (W7 (suc k)) (raising (suc k)) refl refl
           (λ c m w. w)
           (λ c m w. w)
@@ -594,7 +588,7 @@ module _ (P : ℕ) (L : Plan) (sensible : Sensible P L) (s : Lock) (bit : ℕ �
 
   -- U7 clears a write bit, and takes what was departed out of ARRIVE
   count-U7 : (p k n : ℕ) → On P p → On (T .own-level p) 1 → k < C → s .place p ≡ U7 k n
-      → Counted P C (L .reader-threshold) (tally L (row L s p (U7 k n)) (upd bit k 0))
+      → Right (row L s p (U7 k n)) (upd bit k 0)
   count-U7 p k n on o l e = by (ltb (suc k) C) refl
     where
       g : gate T s p ≡ lowering k
@@ -626,9 +620,7 @@ module _ (P : ℕ) (L : Plan) (sensible : Sensible P L) (s : Lock) (bit : ℕ �
       at : (q : Place) (h : Gate) → load-of (L .home p) q ≡ none
           → gate-of q (s .statuses (T .node p (status-level q))) ≡ h → ((c : ℕ) → c < C → Marks h c → suc k ≤ c)
           → ((c : ℕ) → c < C → suc k ≤ c → Marks h c) → ((c : ℕ) → Keeps h c → ⊥) → ((j n : ℕ) → h ≡ reading j n → ⊥)
-          → Counted P C (L .reader-threshold)
-          (tally L (go (with-counts s (upd (s .arrives) k (s .arrives k - (2 ^ 62 + n))) (s .departs)) p q)
-          (upd bit k 0))
+          → Right (go (put-arrive s k (s .arrives k - (2 ^ 62 + n))) p q) (upd bit k 0)
       at q h lq gq a b c d = flip p k (U7 k n) q (upd (s .arrives) k (s .arrives k - (2 ^ 62 + n))) (upd bit k 0) on o
           e lv
           (λ d ne. rw lq (refl, refl, sym (pick-other k n d (λ z. ne (sym z)))))
@@ -653,11 +645,10 @@ module _ (P : ℕ) (L : Plan) (sensible : Sensible P L) (s : Lock) (bit : ℕ �
           (λ j n w. absurd (d j n w))
 
       by : (b : Bool) → ltb (suc k) C ≡ b
-          → Counted P C (L .reader-threshold)
-          (tally L
-          (go (with-counts s (upd (s .arrives) k (s .arrives k - (2 ^ 62 + n))) (s .departs)) p
+          → Right
+          (go (put-arrive s k (s .arrives k - (2 ^ 62 + n))) p
           (cond b (U6 (suc k)) (U8 1)))
-          (upd bit k 0))
+          (upd bit k 0)
       by true z = at (U6 (suc k)) (lowering (suc k)) refl refl
           (λ c m w. w)
           (λ c m w. w)
@@ -676,8 +667,7 @@ module _ (P : ℕ) (L : Plan) (sensible : Sensible P L) (s : Lock) (bit : ℕ �
       × (load-of (L .home p) g ≡ load-of (L .home p) f)
 
   -- such a row
-  plain : (p : ℕ) (f g : Place) → s .place p ≡ f → Plain p f g
-      → Counted P C (L .reader-threshold) (tally L (go s p g) bit)
+  plain : (p : ℕ) (f g : Place) → s .place p ≡ f → Plain p f g → Right (go s p g) bit
   plain p f g e h =
       still (s .statuses) p g (h .0 ∙ sym (gate-at T s p f e)) (h .1 ∙ sym (ap (load-of (L .home p)) e)) (λ q a. refl)
 
@@ -686,14 +676,13 @@ module _ (P : ℕ) (L : Plan) (sensible : Sensible P L) (s : Lock) (bit : ℕ �
       → hold-level (T .own-level p) (phase T s p) ≤ suc i
       → gate-of g (upd (s .statuses) (T .node p i) u (T .node p (status-level g)))
       ≡ gate-of f (s .statuses (T .node p (status-level f))) → load-of (L .home p) g ≡ load-of (L .home p) f
-      → Counted P C (L .reader-threshold) (tally L (go (put-status s (T .node p i) u) p g) bit)
+      → Right (go (put-status s (T .node p i) u) p g) bit
   owned p i u f g e on lv x y = still (upd (s .statuses) (T .node p i) u) p g (x ∙ sym (gate-at T s p f e))
       (y ∙ sym (ap (load-of (L .home p)) e))
       (λ q a. gate-status p i u on lv q a)
 
   -- W6 at level 1 begins with the bits
-  count-W6 : (p i : ℕ) → On P p → s .place p ≡ W6 i
-      → Counted P C (L .reader-threshold) (tally L (row L s p (W6 i)) bit)
+  count-W6 : (p i : ℕ) → On P p → s .place p ≡ W6 i → Right (row L s p (W6 i)) bit
   count-W6 p i onp e = by (leb 2 i) refl
     where
       was : phase T s p ≡ hold i
@@ -705,9 +694,7 @@ module _ (P : ℕ) (L : Plan) (sensible : Sensible P L) (s : Lock) (bit : ℕ �
       lv : hold-level (T .own-level p) (phase T s p) ≡ i
       lv = ap (hold-level (T .own-level p)) was
 
-      by : (b : Bool) → leb 2 i ≡ b
-          → Counted P C (L .reader-threshold)
-          (tally L (go (put-status s (T .node p i) 0) p (cond b (W1 (pred i)) (W7 0))) bit)
+      by : (b : Bool) → leb 2 i ≡ b → Right (go (put-status s (T .node p i) 0) p (cond b (W1 (pred i)) (W7 0))) bit
       by true z = owned p i 0 (W6 i) (W1 (pred i)) e on (omega (arith, lv)) refl refl
       by false z = tallied P C (L .reader-threshold) (tally L (go s p (W7 0)) bit)
           (tally L (go (put-status s (T .node p i) 0) p (W7 0)) bit)
@@ -730,15 +717,14 @@ module _ (P : ℕ) (L : Plan) (sensible : Sensible P L) (s : Lock) (bit : ℕ �
           (λ j n e. absurd (let z : _≡_ {A = ℕ} 0 1 = cc in omega arith)))
 
   -- W5 enters with the bits that were handed over
-  count-W5 : (p i : ℕ) → s .place p ≡ W5 i → Counted P C (L .reader-threshold) (tally L (row L s p (W5 i)) bit)
+  count-W5 : (p i : ℕ) → s .place p ≡ W5 i → Right (row L s p (W5 i)) bit
   count-W5 p i e = by (eqb w WAIT) (leb w 1000) (eqb w (told-status i)) refl refl
     where
       w : ℕ
       w = s .statuses (T .node p i)
 
       by : (a b c : Bool) → eqb w WAIT ≡ a → leb w 1000 ≡ b
-          → Counted P C (L .reader-threshold)
-          (tally L (cond a s (cond b (go s p Writer) (cond c (go s p (W6 i)) s))) bit)
+          → Right (cond a s (cond b (go s p Writer) (cond c (go s p (W6 i)) s))) bit
       by true b c x y = v .counted
       by false true c x y = plain p (W5 i) Writer e (rw (x, y) (refl, refl))
       by false false true x y = plain p (W5 i) (W6 i) e (rw (x, y) (refl, refl))
@@ -796,8 +782,7 @@ module _ (P : ℕ) (L : Plan) (sensible : Sensible P L) (s : Lock) (bit : ℕ �
         (λ q a. sym (load-other p (done L s p i) q a))
 
   -- U3: the bits go with the section
-  count-U3 : (p i t n : ℕ) → On (T .own-level p) 1 → s .place p ≡ U3 i t n
-      → Counted P C (L .reader-threshold) (tally L (row L s p (U3 i t n)) bit)
+  count-U3 : (p i t n : ℕ) → On (T .own-level p) 1 → s .place p ≡ U3 i t n → Right (row L s p (U3 i t n)) bit
   count-U3 p i t u o e =
       let was : phase T s p ≡ give 1 i t = phase-at T s p (U3 i t u) e in
       let m = n p 1 i t u (U3 i t u) e was in
@@ -805,7 +790,7 @@ module _ (P : ℕ) (L : Plan) (sensible : Sensible P L) (s : Lock) (bit : ℕ �
       let wd : gate-of (W5 i) u ≡ wide =
       rw (ne-eqb u WAIT (omega (arith, so .0, small i)), le-leb u 1000 (omega (arith, so .0, small i))) in
       subst
-      (λ y. Counted P C (L .reader-threshold) (tally L (go (put-status s y u) p (done L s p i)) bit))
+      (λ y. Right (go (put-status s y u) p (done L s p i)) bit)
       (sym (m .target))
       (tallied P C (L .reader-threshold)
       (record {
@@ -831,7 +816,7 @@ module _ (P : ℕ) (L : Plan) (sensible : Sensible P L) (s : Lock) (bit : ℕ �
       })))
 
   -- U9: neither of the two stands for a bit
-  count-U9 : (p i t : ℕ) → s .place p ≡ U9 i t → Counted P C (L .reader-threshold) (tally L (row L s p (U9 i t)) bit)
+  count-U9 : (p i t : ℕ) → s .place p ≡ U9 i t → Right (row L s p (U9 i t)) bit
   count-U9 p i t e =
       let was : phase T s p ≡ give i i t = phase-at T s p (U9 i t) e in
       let u = told-status i in
@@ -849,7 +834,7 @@ module _ (P : ℕ) (L : Plan) (sensible : Sensible P L) (s : Lock) (bit : ℕ �
       (gate-phase (T .own-level (m .rank)) (s .place (m .rank))
       (s .statuses (T .node (m .rank) (status-level (s .place (m .rank))))) (inv .range (m .rank))) in
       subst
-      (λ y. Counted P C (L .reader-threshold) (tally L (go (put-status s y u) p (done L s p i)) bit))
+      (λ y. Right (go (put-status s y u) p (done L s p i)) bit)
       (sym (m .target))
       (tallied P C (L .reader-threshold) (tally L s bit)
       (tally L (go (put-status s (T .node (m .rank) i) u) p (done L s p i)) bit)
@@ -869,34 +854,29 @@ module _ (P : ℕ) (L : Plan) (sensible : Sensible P L) (s : Lock) (bit : ℕ �
   two p f b g h x y = cond-both b g h (Plain p f) (λ _. x) (λ _. y)
 
   -- U5 hands over, or begins to clear the bits
-  count-U5 : (p n : ℕ) → On P p → On (T .own-level p) 1 → s .place p ≡ U5 n
-      → Counted P C (L .reader-threshold) (tally L (row L s p (U5 n)) bit)
+  count-U5 : (p n : ℕ) → On P p → On (T .own-level p) 1 → s .place p ≡ U5 n → Right (row L s p (U5 n)) bit
   count-U5 p n onp o e = by (eqb (s .nexts (T .node p 1)) 0) (ltb n (L .hand-over-limit p 1))
     where
       g : gate T s p ≡ wide
       g = gate-at T s p (U5 n) e
 
-      lower : Counted P C (L .reader-threshold) (tally L (go s p (U6 0)) bit)
+      lower : Right (go s p (U6 0)) bit
       lower = turn p (U5 n) (U6 0) onp o e (level-1 p (U5 n) e (λ w. refl)) refl refl (lowering 0) refl
           (λ c m w. rw g tt)
           (λ c m w. omega arith)
           (λ c m w. absurd w)
           (λ j n e. absurd (let z : _≡_ {A = ℕ} 0 1 = cc in omega arith))
 
-      by : (a b : Bool)
-          → Counted P C (L .reader-threshold)
-          (tally L (go s p (cond a (U6 0) (cond b (U3 1 (s .nexts (T .node p 1)) (suc n)) (U6 0)))) bit)
+      by : (a b : Bool) → Right (go s p (cond a (U6 0) (cond b (U3 1 (s .nexts (T .node p 1)) (suc n)) (U6 0)))) bit
       by true b = lower
       by false true = plain p (U5 n) (U3 1 (s .nexts (T .node p 1)) (suc n)) e (refl, refl)
       by false false = lower
 
   -- U10 touches no counter
-  count-U10 : (p i : ℕ) → s .place p ≡ U10 i → Counted P C (L .reader-threshold) (tally L (row L s p (U10 i)) bit)
+  count-U10 : (p i : ℕ) → s .place p ≡ U10 i → Right (row L s p (U10 i)) bit
   count-U10 p i e = by (eqb (s .tails (T .element p i)) (T .node p i))
     where
-      by : (b : Bool)
-          → Counted P C (L .reader-threshold)
-          (tally L (cond b (go (free s (T .element p i)) p (done L s p i)) (go s p (U8 i))) bit)
+      by : (b : Bool) → Right (cond b (go (free s (T .element p i)) p (done L s p i)) (go s p (U8 i))) bit
       by true = plain p (U10 i) (done L s p i) e
           (two p (U10 i) (eqb i (T .own-level p)) Idle (U8 (suc i)) (refl, refl) (refl, refl))
       by false = plain p (U10 i) (U8 i) e (refl, refl)
@@ -935,7 +915,7 @@ module _ (P : ℕ) (L : Plan) (sensible : Sensible P L) (s : Lock) (bit : ℕ �
 
   -- every row keeps the counters
   pub count-row : (p : ℕ) → On P p → On (T .own-level p) 1 → (f : Place) → s .place p ≡ f
-      → Counted P C (L .reader-threshold) (tally L (row L s p f) (bits f))
+      → Right (row L s p f) (bits f)
   count-row p on o Idle e = v .counted
   count-row p on o (W1 i) e = plain p (W1 i) (W2 i) e (refl, refl)
   count-row p on o (W2 i) e =

@@ -13,10 +13,9 @@ use Rattle.std.proofs.shelf.Tests.{ltb-true}
 use Rattle.queues.specs.Machine.{Tree, Lawful, On, Phase, out, fresh, clean, ready, link, wait, hold, give}
 use Rattle.queues.specs.Machine.{hold-level, InRange, Waits, Calm, Asks, Inv}
 use Rattle.queues.specs.Table.{Place, Idle, W1, W2, W3, W4, W5, W6, W7, W8, W9, U1, U2, U3, U4, U5, U6, U7, U8, U9}
-use Rattle.queues.specs.Table.{with-counts}
-use Rattle.queues.specs.Table.{U10, R1, R2, R3, R4, R5, R6, R7, Writer, Reader, WAIT, told-status, Plan, Lock, upd}
-use Rattle.queues.specs.Table.{phase-of, status-level, phase, view, Counts, Sound, Fine, go, put-status, join, drop}
-use Rattle.queues.specs.Table.{free, done, next, row}
+use Rattle.queues.specs.Table.{with-counts, U10, R1, R2, R3, R4, R5, R6, R7, Writer, Reader, WAIT, told-status, Plan}
+use Rattle.queues.specs.Table.{Lock, upd, phase-of, status-level, phase, view, Counts, Sound, Fine, go, put-status}
+use Rattle.queues.specs.Table.{join, drop, free, done, next, row}
 use Rattle.queues.specs.Jobs.{fresh-lock}
 use Rattle.queues.proofs.OneHolder.{one-owner, one-holder, range-of, asked, Successor, successor}
 use Rattle.queues.proofs.Cases.{split, calm-asks, calm-waits}
