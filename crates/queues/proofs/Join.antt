@@ -5,8 +5,8 @@ use mathlib.Core.Path.{_≡_, refl, sym, _∙_, ap, subst}
 use mathlib.Core.Logic.{_⊎_, inl, inr, _≢_, ⊎-elim}
 use native.Mathlib.Omega.{arith}
 use Rattle.std.proofs.shelf.Tests.{cases-eq, cases-lt}
-use Rattle.queues.specs.Machine.{Tree, Lawful, On, Phase, out, fresh, clean, ready, link, wait, hold, give}
-use Rattle.queues.specs.Machine.{hold-level, InRange, Waits, State, Inv, Holder, Member, Heads, Behind, Asks}
+use Rattle.queues.specs.Machine.{holds-from, Tree, Lawful, On, Phase, out, fresh, clean, ready, link, wait, hold}
+use Rattle.queues.specs.Machine.{give, hold-level, InRange, Waits, State, Inv, Holder, Member, Heads, Behind, Asks}
 use Rattle.queues.proofs.OneHolder.{range-of, apart, asked, Occupant, occupant}
 use Rattle.queues.proofs.Cases.{split}
 
@@ -55,7 +55,7 @@ module _ (T : Tree) (G : Lawful T) (s : State) (v : Inv T s) (p i : ℕ) (e : s 
   on-p : On (T .own-level p) i
   on-p = range-of (s .phases p) (T .own-level p) (v .range p) (ready i) e
 
-  level-p : hold-level (T .own-level p) (s .phases p) ≡ suc i
+  level-p : holds-from T s p ≡ suc i
   level-p = ap (hold-level (T .own-level p)) e
 
   -- who is about to join does not wait yet
@@ -165,14 +165,14 @@ module _ (T : Tree) (G : Lawful T) (s : State) (v : Inv T s) (p i : ℕ) (e : s 
           grown p j (v .heads p j on (omega (arith, level-p)))
 
   -- nobody holds less
-  levels′ : (q : ℕ) → hold-level (T .own-level q) (phases q) ≤ hold-level (T .own-level q) (s .phases q)
+  levels′ : (q : ℕ) → hold-level (T .own-level q) (phases q) ≤ holds-from T s q
   levels′ = split p
-      (λ q. hold-level (T .own-level q) (phases q) ≤ hold-level (T .own-level q) (s .phases q))
+      (λ q. hold-level (T .own-level q) (phases q) ≤ holds-from T s q)
       (by (c .after))
       (λ q a. omega (arith, ap (hold-level (T .own-level q)) (c .others q a)))
     where
       by : ((s .tails K ≡ 0) × (phases p ≡ hold i)) ⊎ ((s .tails K ≢ 0) × (phases p ≡ link i (s .tails K)))
-          → hold-level (T .own-level p) (phases p) ≤ hold-level (T .own-level p) (s .phases p)
+          → hold-level (T .own-level p) (phases p) ≤ holds-from T s p
       by (inl x) = omega (arith, level-p, ap (hold-level (T .own-level p)) (x .1))
       by (inr x) = omega (arith, level-p, ap (hold-level (T .own-level p)) (x .1))
 

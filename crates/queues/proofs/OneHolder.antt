@@ -9,8 +9,8 @@ use mathlib.Core.Logic.{_⊎_, inl, inr, _≢_, ⊎-elim}
 use native.Mathlib.Omega.{arith}
 use Rattle.std.proofs.shelf.Ways.{tells}
 use Rattle.std.proofs.shelf.Tests.{cases-eq}
-use Rattle.queues.specs.Machine.{Tree, Lawful, On, Phase, link, wait, give, hold-level, InRange, Waits, State, Inv}
-use Rattle.queues.specs.Machine.{Holder, Member, Heads, Behind, Asks}
+use Rattle.queues.specs.Machine.{holds-from, Tree, Lawful, On, Phase, link, wait, give, hold-level, InRange, Waits}
+use Rattle.queues.specs.Machine.{State, Inv, Holder, Member, Heads, Behind, Asks}
 
 -- the levels of a phase that is known are in range
 pub range-of : (f : Phase) (top : ℕ) → InRange top f → (g : Phase) → f ≡ g → InRange top g
@@ -23,9 +23,8 @@ pub record Occupant (T : Tree) (s : State) (k a : ℕ) : Type 0 where
   pub on : On (T .own-level rank) level
   pub queue : T .element rank level ≡ k
   pub is : s .node-at k a ≡ T .node rank level
-  pub near : hold-level (T .own-level rank) (s .phases rank) ≤ suc level
-  pub role : ((a ≡ s .head-turn k) × (hold-level (T .own-level rank) (s .phases rank) ≤ level))
-      ⊎ Waits (s .phases rank) level
+  pub near : holds-from T s rank ≤ suc level
+  pub role : ((a ≡ s .head-turn k) × (holds-from T s rank ≤ level)) ⊎ Waits (s .phases rank) level
 
 -- who stands behind rank p at level i, and that t is its node
 pub record Successor (T : Tree) (s : State) (p i t : ℕ) : Type 0 where
@@ -55,16 +54,14 @@ waits-cases f i w = grind (arith, tells)
 
 module _ (T : Tree) (G : Lawful T) (s : State) (v : Inv T s) where
   -- two ranks that hold one element have one node there
-  pub one-head : (p r i : ℕ) → On (T .own-level p) i → On (T .own-level r) i
-      → hold-level (T .own-level p) (s .phases p) ≤ i → hold-level (T .own-level r) (s .phases r) ≤ i
-      → T .element p i ≡ T .element r i → T .node p i ≡ T .node r i
+  pub one-head : (p r i : ℕ) → On (T .own-level p) i → On (T .own-level r) i → holds-from T s p ≤ i
+      → holds-from T s r ≤ i → T .element p i ≡ T .element r i → T .node p i ≡ T .node r i
   one-head p r i on on′ h h′ e =
       sym (v .heads p i on h .is) ∙ (ap (λ k. s .node-at k (s .head-turn k)) e ∙ v .heads r i on′ h′ .is)
 
   -- two ranks that hold one element are one rank: down to the leaf, d levels below
   one-holder-by : (d p r i : ℕ) → i + d ≡ T .own-level p → On (T .own-level p) i → On (T .own-level r) i
-      → hold-level (T .own-level p) (s .phases p) ≤ i → hold-level (T .own-level r) (s .phases r) ≤ i
-      → T .element p i ≡ T .element r i → p ≡ r
+      → holds-from T s p ≤ i → holds-from T s r ≤ i → T .element p i ≡ T .element r i → p ≡ r
   one-holder-by zero p r i room on on′ h h′ e = ⊎-elim
       (λ (q : p ≡ r). q)
       (λ (q : (i < T .own-level p) × (i < T .own-level r) × (T .element p (suc i) ≡ T .element r (suc i))).
@@ -77,15 +74,13 @@ module _ (T : Tree) (G : Lawful T) (s : State) (v : Inv T s) where
       (G .below p r i on on′ (one-head p r i on on′ h h′ e))
 
   -- two ranks that hold one element are one rank
-  pub one-holder : (p r i : ℕ) → On (T .own-level p) i → On (T .own-level r) i
-      → hold-level (T .own-level p) (s .phases p) ≤ i → hold-level (T .own-level r) (s .phases r) ≤ i
-      → T .element p i ≡ T .element r i → p ≡ r
+  pub one-holder : (p r i : ℕ) → On (T .own-level p) i → On (T .own-level r) i → holds-from T s p ≤ i
+      → holds-from T s r ≤ i → T .element p i ≡ T .element r i → p ≡ r
   one-holder p r i on on′ h h′ e = one-holder-by (T .own-level p - i) p r i (omega arith) on on′ h h′ e
 
   -- a node is used by one rank: two ranks that hold all below it are one
-  pub one-owner : (p r i j : ℕ) → On (T .own-level p) i → On (T .own-level r) j
-      → hold-level (T .own-level p) (s .phases p) ≤ suc i → hold-level (T .own-level r) (s .phases r) ≤ suc j
-      → T .node p i ≡ T .node r j → (p ≡ r) × (i ≡ j)
+  pub one-owner : (p r i j : ℕ) → On (T .own-level p) i → On (T .own-level r) j → holds-from T s p ≤ suc i
+      → holds-from T s r ≤ suc j → T .node p i ≡ T .node r j → (p ≡ r) × (i ≡ j)
   one-owner p r i j on on′ h h′ e =
       let same : i ≡ j = G .queue-of p r i j on on′ e .0 in
       let on″ : On (T .own-level r) i = omega arith in (
@@ -98,7 +93,7 @@ module _ (T : Tree) (G : Lawful T) (s : State) (v : Inv T s) where
       )
 
   -- who waits at a level holds all below it
-  pub waits-level : (p i : ℕ) → Waits (s .phases p) i → hold-level (T .own-level p) (s .phases p) ≡ suc i
+  pub waits-level : (p i : ℕ) → Waits (s .phases p) i → holds-from T s p ≡ suc i
   waits-level p i w = level-waits (T .own-level p) (s .phases p) i w
 
   -- and the level is one of its own
@@ -139,9 +134,8 @@ module _ (T : Tree) (G : Lawful T) (s : State) (v : Inv T s) where
           }
 
   -- the node of a rank that has not joined stands in no queue
-  pub apart : (p i : ℕ) → On (T .own-level p) i → hold-level (T .own-level p) (s .phases p) ≡ suc i
-      → (Waits (s .phases p) i → ⊥) → (k a : ℕ) → s .head-turn k ≤ a → a < s .next-turn k
-      → s .node-at k a ≢ T .node p i
+  pub apart : (p i : ℕ) → On (T .own-level p) i → holds-from T s p ≡ suc i → (Waits (s .phases p) i → ⊥) → (k a : ℕ)
+      → s .head-turn k ≤ a → a < s .next-turn k → s .node-at k a ≢ T .node p i
   apart p i on h w k a l l′ e = by (o .role)
     where
       o : Occupant T s k a
@@ -150,11 +144,10 @@ module _ (T : Tree) (G : Lawful T) (s : State) (v : Inv T s) where
       same : (o .rank ≡ p) × (o .level ≡ i)
       same = one-owner (o .rank) p (o .level) i (o .on) on (o .near) (omega arith) (sym (o .is) ∙ e)
 
-      holds : hold-level (T .own-level (o .rank)) (s .phases (o .rank)) ≡ hold-level (T .own-level p) (s .phases p)
-      holds = ap (λ x. hold-level (T .own-level x) (s .phases x)) (same .0)
+      holds : holds-from T s (o .rank) ≡ holds-from T s p
+      holds = ap (λ x. holds-from T s x) (same .0)
 
-      by : ((a ≡ s .head-turn k) × (hold-level (T .own-level (o .rank)) (s .phases (o .rank)) ≤ o .level))
-          ⊎ Waits (s .phases (o .rank)) (o .level) → ⊥
+      by : ((a ≡ s .head-turn k) × (holds-from T s (o .rank) ≤ o .level)) ⊎ Waits (s .phases (o .rank)) (o .level) → ⊥
       by (inl r) = omega (arith, holds, same)
       by (inr r) = w (subst₂ (λ x y. Waits (s .phases x) y) (same .0) (same .1) r)
 

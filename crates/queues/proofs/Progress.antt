@@ -6,8 +6,8 @@ use mathlib.Core.Path.{_≡_, refl, sym, _∙_, ap, subst}
 use mathlib.Core.Logic.{_⊎_, inl, inr, _≢_, ⊎-elim}
 use native.Mathlib.Omega.{arith}
 use Rattle.std.proofs.shelf.Tests.{cases-eq}
-use Rattle.queues.specs.Machine.{Tree, Lawful, On, Phase, out, fresh, clean, ready, link, wait, hold, give}
-use Rattle.queues.specs.Machine.{hold-level, InRange, Waits, State, Inv, Holder, Member, Heads, Behind}
+use Rattle.queues.specs.Machine.{holds-from, Tree, Lawful, On, Phase, out, fresh, clean, ready, link, wait, hold}
+use Rattle.queues.specs.Machine.{give, hold-level, InRange, Waits, State, Inv, Holder, Member, Heads, Behind}
 use Rattle.queues.specs.Table.{Place, Idle, W1, W2, W3, W4, W5, W6, W7, W8, W9, U1, U2, U3, U4, U5, U6, U7, U8, U9}
 use Rattle.queues.specs.Table.{U10, R1, R2, R3, R4, R5, R6, R7, Writer, Reader, told-status, Plan, Lock}
 use Rattle.queues.specs.Counters.{total, tries, admits, clears, Tally, Counted}
@@ -28,7 +28,7 @@ waits-or (give h j t) = inr (λ i e. absurd (subst (λ f. Waits f i) (sym e) ref
 -- a rank that holds something and does not wait
 pub record Mover (T : Tree) (s : State) : Type 0 where
   pub rank : ℕ
-  pub holds : hold-level (T .own-level rank) (s .phases rank) ≤ T .own-level rank
+  pub holds : holds-from T s rank ≤ T .own-level rank
   pub free : (i : ℕ) → s .phases rank ≢ wait i
 
 -- whoever waits, somebody holds what it waits for; who waits in turn waits higher up
