@@ -11,7 +11,7 @@ use native.Mathlib.Omega.{arith}
 use Rattle.std.proofs.shelf.Ways.{tells}
 use Rattle.std.proofs.shelf.Tests.{cases-eq, cases-lt, cond-both, eq-eqb, ne-eqb, le-leb, lt-leb, eqb-true, leb-false}
 use Rattle.std.proofs.shelf.Tests.{ltb-true, ltb-false}
-use Rattle.queues.specs.Machine.{Tree, Lawful, On, wait, hold, give, hold-level, InRange, Waits, Inv}
+use Rattle.queues.specs.Machine.{holds-from, Tree, Lawful, On, wait, hold, give, hold-level, InRange, Waits, Inv}
 use Rattle.queues.specs.Table.{Place, Idle, W1, W2, W3, W4, W5, W6, W7, W8, W9, U1, U2, U3, U4, U5, U6, U7, U8, U9}
 use Rattle.queues.specs.Table.{with-counts, with-statuses, put-arrive, U10, R1, R2, R3, R4, R5, R6, R7, Writer}
 use Rattle.queues.specs.Table.{Reader, WAIT, told-status, Plan, Lock, upd, phase-of, status-level, phase, view, Sound}
@@ -99,17 +99,16 @@ module _ (P : ℕ) (L : Plan) (sensible : Sensible P L) (s : Lock) (bit : ℕ �
   Right s bit = Counted P C (L .reader-threshold) (tally L s bit)
 
   -- while p holds the whole machine, all other gates are shut
-  alone : (p : ℕ) → On (T .own-level p) 1 → hold-level (T .own-level p) (phase T s p) ≤ 1 → (q : ℕ) → q ≢ p
-      → gate T s q ≡ shut
+  alone : (p : ℕ) → On (T .own-level p) 1 → holds-from T (view T s) p ≤ 1 → (q : ℕ) → q ≢ p → gate T s q ≡ shut
   alone p o l q a = ⊎-elim
       (λ (z : gate T s q ≡ shut). z)
-      (λ (z : (hold-level (T .own-level q) (phase T s q) ≡ 1) × On (T .own-level q) 1).
+      (λ (z : (holds-from T (view T s) q ≡ 1) × On (T .own-level q) 1).
       absurd (a (one-holder T G (view T s) inv q p 1 (z .1) o (omega arith) l (root q p (z .1) o))))
       (gate-phase (T .own-level q) (s .place q) (s .statuses (T .node q (status-level (s .place q)))) (inv .range q))
 
   -- nor by a STATUS written at a node that is not its own
-  gate-status : (o i u : ℕ) → On (T .own-level o) i → hold-level (T .own-level o) (phase T s o) ≤ suc i → (q : ℕ)
-      → q ≢ o → gate T (put-status s (T .node o i) u) q ≡ gate T s q
+  gate-status : (o i u : ℕ) → On (T .own-level o) i → holds-from T (view T s) o ≤ suc i → (q : ℕ) → q ≢ o
+      → gate T (put-status s (T .node o i) u) q ≡ gate T s q
   gate-status o i u on l q a = gate-same (s .place q) (s .statuses (T .node q (status-level (s .place q))))
       (upd (s .statuses) (T .node o i) u (T .node q (status-level (s .place q))))
       (λ j e.
@@ -364,7 +363,7 @@ module _ (P : ℕ) (L : Plan) (sensible : Sensible P L) (s : Lock) (bit : ℕ �
 
   -- a writer's row at the counter k, from f to g
   flip : (p k : ℕ) (f g : Place) (arrives bit′ : ℕ → ℕ) → On P p → On (T .own-level p) 1 → s .place p ≡ f
-      → hold-level (T .own-level p) (phase T s p) ≤ 1 → Local (load-of (L .home p) f) (load-of (L .home p) g) k
+      → holds-from T (view T s) p ≤ 1 → Local (load-of (L .home p) f) (load-of (L .home p) g) k
       → ((d : ℕ) → d ≢ k → arrives d ≡ s .arrives d) → ((d : ℕ) → d ≢ k → bit′ d ≡ bit d) → bit′ k ≤ 1
       → arrives k + write-bit * bit k + s .departs k + tries (load-of (L .home p) f) k
       + admits (load-of (L .home p) f) k + clears (load-of (L .home p) f) k
@@ -395,8 +394,8 @@ module _ (P : ℕ) (L : Plan) (sensible : Sensible P L) (s : Lock) (bit : ℕ �
       })
 
   -- the one writer marks each bit that stands
-  own-marks : (p : ℕ) → On (T .own-level p) 1 → hold-level (T .own-level p) (phase T s p) ≤ 1 → (c : ℕ) → c < C
-      → bit c ≡ 1 → Marks (gate T s p) c
+  own-marks : (p : ℕ) → On (T .own-level p) 1 → holds-from T (view T s) p ≤ 1 → (c : ℕ) → c < C → bit c ≡ 1
+      → Marks (gate T s p) c
   own-marks p o lv c l z =
       let w = v .counted .each c l .stands z in
       split p
@@ -415,9 +414,9 @@ module _ (P : ℕ) (L : Plan) (sensible : Sensible P L) (s : Lock) (bit : ℕ �
       (λ q a on w. h q on (sym (load-other p g q a) ∙ w))
 
   -- rows W8, W9, U5, and W6 at level 1: no word changes
-  turn : (p : ℕ) (f g : Place) → On P p → On (T .own-level p) 1 → s .place p ≡ f
-      → hold-level (T .own-level p) (phase T s p) ≤ 1 → load-of (L .home p) f ≡ none → load-of (L .home p) g ≡ none
-      → (h : Gate) → gate-of g (s .statuses (T .node p (status-level g))) ≡ h
+  turn : (p : ℕ) (f g : Place) → On P p → On (T .own-level p) 1 → s .place p ≡ f → holds-from T (view T s) p ≤ 1
+      → load-of (L .home p) f ≡ none → load-of (L .home p) g ≡ none → (h : Gate)
+      → gate-of g (s .statuses (T .node p (status-level g))) ≡ h
       → ((c : ℕ) → c < C → Marks h c → Marks (gate T s p) c) → ((c : ℕ) → c < C → Marks (gate T s p) c → Marks h c)
       → ((c : ℕ) → c < C → Keeps h c → (q : ℕ) → On P q → load q ≢ inside c)
       → ((j n : ℕ) → h ≡ reading j n → write-bit + s .departs j + total P (λ q. admits (load q) j) ≤ n)
@@ -454,8 +453,7 @@ module _ (P : ℕ) (L : Plan) (sensible : Sensible P L) (s : Lock) (bit : ℕ �
       (cases-lt 0 C)
 
   -- the writer holds the whole machine
-  level-1 : (p : ℕ) (f : Place) → s .place p ≡ f → ((w : ℕ) → phase-of f w ≡ hold 1)
-      → hold-level (T .own-level p) (phase T s p) ≤ 1
+  level-1 : (p : ℕ) (f : Place) → s .place p ≡ f → ((w : ℕ) → phase-of f w ≡ hold 1) → holds-from T (view T s) p ≤ 1
   level-1 p f e h = rw (phase-at T s p f e, h (s .statuses (T .node p (status-level f)))) (omega arith)
 
   -- W8 reads ARRIVE: it covers all inside, since the bit stands
@@ -525,7 +523,7 @@ module _ (P : ℕ) (L : Plan) (sensible : Sensible P L) (s : Lock) (bit : ℕ �
       g = gate-at T s p (W7 k) e
 
       -- the writer holds the whole machine
-      lv : hold-level (T .own-level p) (phase T s p) ≤ 1
+      lv : holds-from T (view T s) p ≤ 1
       lv = level-1 p (W7 k) e (λ w. refl)
 
       down : bit k ≡ 0
@@ -594,7 +592,7 @@ module _ (P : ℕ) (L : Plan) (sensible : Sensible P L) (s : Lock) (bit : ℕ �
       g : gate T s p ≡ lowering k
       g = gate-at T s p (U7 k n) e
 
-      lv : hold-level (T .own-level p) (phase T s p) ≤ 1
+      lv : holds-from T (view T s) p ≤ 1
       lv = level-1 p (U7 k n) e (λ w. refl)
 
       stood : bit k ≡ 1
@@ -672,8 +670,7 @@ module _ (P : ℕ) (L : Plan) (sensible : Sensible P L) (s : Lock) (bit : ℕ �
       still (s .statuses) p g (h .0 ∙ sym (gate-at T s p f e)) (h .1 ∙ sym (ap (load-of (L .home p)) e)) (λ q a. refl)
 
   -- and one that also writes the own STATUS
-  owned : (p i u : ℕ) (f g : Place) → s .place p ≡ f → On (T .own-level p) i
-      → hold-level (T .own-level p) (phase T s p) ≤ suc i
+  owned : (p i u : ℕ) (f g : Place) → s .place p ≡ f → On (T .own-level p) i → holds-from T (view T s) p ≤ suc i
       → gate-of g (upd (s .statuses) (T .node p i) u (T .node p (status-level g)))
       ≡ gate-of f (s .statuses (T .node p (status-level f))) → load-of (L .home p) g ≡ load-of (L .home p) f
       → Right (go (put-status s (T .node p i) u) p g) bit
@@ -691,7 +688,7 @@ module _ (P : ℕ) (L : Plan) (sensible : Sensible P L) (s : Lock) (bit : ℕ �
       on : On (T .own-level p) i
       on = subst (InRange (T .own-level p)) was (inv .range p)
 
-      lv : hold-level (T .own-level p) (phase T s p) ≡ i
+      lv : holds-from T (view T s) p ≡ i
       lv = ap (hold-level (T .own-level p)) was
 
       by : (b : Bool) → leb 2 i ≡ b → Right (go (put-status s (T .node p i) 0) p (cond b (W1 (pred i)) (W7 0))) bit
@@ -748,7 +745,7 @@ module _ (P : ℕ) (L : Plan) (sensible : Sensible P L) (s : Lock) (bit : ℕ �
     r≢p : n .rank ≢ p
     r≢p z = subst (λ f. Waits f i) (sym (n .waits) ∙ (ap (phase T s) z ∙ was)) refl
 
-    lv : hold-level (T .own-level (n .rank)) (phase T s (n .rank)) ≤ suc i
+    lv : holds-from T (view T s) (n .rank) ≤ suc i
     lv = rw (n .waits) (omega arith)
 
     -- the gate of the giver after it
@@ -824,13 +821,11 @@ module _ (P : ℕ) (L : Plan) (sensible : Sensible P L) (s : Lock) (bit : ℕ �
       let on : (1 ≤ i) × (i ≤ i) × (i ≤ T .own-level p) = subst (InRange (T .own-level p)) was (inv .range p) in
       let big : (WAIT < told-status i) × (1000 < told-status i) = told-large i in
       let told : gate-of (W5 i) u ≡ shut = rw (ne-eqb u WAIT (omega arith), lt-leb u 1000 (omega arith)) in
-      let lr : hold-level (T .own-level (m .rank)) (phase T s (m .rank)) ≡ suc i =
-      ap (hold-level (T .own-level (m .rank))) (m .waits) in
+      let lr : holds-from T (view T s) (m .rank) ≡ suc i = ap (hold-level (T .own-level (m .rank))) (m .waits) in
       let before : gate T s (m .rank) ≡ shut =
       ⊎-elim
       (λ (z : gate T s (m .rank) ≡ shut). z)
-      (λ (z : (hold-level (T .own-level (m .rank)) (phase T s (m .rank)) ≡ 1) × On (T .own-level (m .rank)) 1).
-      absurd (omega arith))
+      (λ (z : (holds-from T (view T s) (m .rank) ≡ 1) × On (T .own-level (m .rank)) 1). absurd (omega arith))
       (gate-phase (T .own-level (m .rank)) (s .place (m .rank))
       (s .statuses (T .node (m .rank) (status-level (s .place (m .rank))))) (inv .range (m .rank))) in
       subst

@@ -10,8 +10,8 @@ use native.Mathlib.Omega.{arith}
 use Rattle.std.proofs.shelf.Ways.{tells}
 use Rattle.std.proofs.shelf.Tests.{cases-eq, cases-order, cond-both, eqb-true, eqb-false, leb-true, leb-false}
 use Rattle.std.proofs.shelf.Tests.{ltb-true}
-use Rattle.queues.specs.Machine.{Tree, Lawful, On, Phase, out, fresh, clean, ready, link, wait, hold, give}
-use Rattle.queues.specs.Machine.{hold-level, InRange, Waits, Calm, Asks, Inv}
+use Rattle.queues.specs.Machine.{holds-from, Tree, Lawful, On, Phase, out, fresh, clean, ready, link, wait, hold}
+use Rattle.queues.specs.Machine.{give, hold-level, InRange, Waits, Calm, Asks, Inv}
 use Rattle.queues.specs.Table.{Place, Idle, W1, W2, W3, W4, W5, W6, W7, W8, W9, U1, U2, U3, U4, U5, U6, U7, U8, U9}
 use Rattle.queues.specs.Table.{with-counts, U10, R1, R2, R3, R4, R5, R6, R7, Writer, Reader, WAIT, told-status, Plan}
 use Rattle.queues.specs.Table.{Lock, upd, phase-of, status-level, phase, view, Counts, Sound, Fine, go, put-status}
@@ -73,15 +73,15 @@ module _ (L : Plan) (G : Lawful (L .tree)) (small : (q j : ℕ) → L .hand-over
   inv = v .queues
 
   -- a STATUS written at the node of one rank is no other's
-  pub status-other : (o i u : ℕ) → On (T .own-level o) i → hold-level (T .own-level o) (phase T s o) ≤ suc i
-      → (q j : ℕ) → q ≢ o → On (T .own-level q) j → hold-level (T .own-level q) (phase T s q) ≤ suc j
+  pub status-other : (o i u : ℕ) → On (T .own-level o) i → holds-from T (view T s) o ≤ suc i → (q j : ℕ) → q ≢ o
+      → On (T .own-level q) j → holds-from T (view T s) q ≤ suc j
       → upd (s .statuses) (T .node o i) u (T .node q j) ≡ s .statuses (T .node q j)
   status-other o i u on l q j a on′ l′ = upd-other (s .statuses) (T .node o i) u (T .node q j)
       (λ z. a (one-owner T G (view T s) inv q o j i on′ on l′ l z .0))
 
   -- so it changes no other's phase
-  phase-status : (o i u : ℕ) → On (T .own-level o) i → hold-level (T .own-level o) (phase T s o) ≤ suc i → (q : ℕ)
-      → q ≢ o → phase T (put-status s (T .node o i) u) q ≡ phase T s q
+  phase-status : (o i u : ℕ) → On (T .own-level o) i → holds-from T (view T s) o ≤ suc i → (q : ℕ) → q ≢ o
+      → phase T (put-status s (T .node o i) u) q ≡ phase T s q
   phase-status o i u on l q a = phase-same (s .place q) (s .statuses (T .node q (status-level (s .place q))))
       (upd (s .statuses) (T .node o i) u (T .node q (status-level (s .place q))))
       (λ j e.
@@ -92,8 +92,8 @@ module _ (L : Plan) (G : Lawful (L .tree)) (small : (q j : ℕ) → L .hand-over
       (rw (phase-at T s q (W5 j) e) (w5-level (T .own-level q) j (s .statuses (T .node q j))))))
 
   -- and nothing that another's place says
-  sound-status : (o i u : ℕ) → On (T .own-level o) i → hold-level (T .own-level o) (phase T s o) ≤ suc i → (q : ℕ)
-      → q ≢ o → Sound L (upd (s .statuses) (T .node o i) u) q (s .place q)
+  sound-status : (o i u : ℕ) → On (T .own-level o) i → holds-from T (view T s) o ≤ suc i → (q : ℕ) → q ≢ o
+      → Sound L (upd (s .statuses) (T .node o i) u) q (s .place q)
   sound-status o i u on l q a = sound-same L small (s .statuses) (upd (s .statuses) (T .node o i) u) q (s .place q)
       (λ j on′ l′. status-other o i u on l q j a on′ l′)
       (v .sound q)
@@ -143,7 +143,7 @@ module _ (L : Plan) (G : Lawful (L .tree)) (small : (q j : ℕ) → L .hand-over
   -- a move that writes no word of a queue
   moved : (p : ℕ) (g : Place) (arrives departs : ℕ → ℕ)
       → hold-level (T .own-level p) (phase-of g (s .statuses (T .node p (status-level g))))
-      ≡ hold-level (T .own-level p) (phase T s p)
+      ≡ holds-from T (view T s) p
       → InRange (T .own-level p) (phase-of g (s .statuses (T .node p (status-level g))))
       → ((j : ℕ) → Waits (phase T s p) j → ⊥)
       → Asks T (prepared (view T s) (phase T (go s p g)) (s .nexts)) p
@@ -170,7 +170,7 @@ module _ (L : Plan) (G : Lawful (L .tree)) (small : (q j : ℕ) → L .hand-over
       let was : phase T s p ≡ clean i = phase-at T s p (W2 i) e in
       let now : phase T (go s₁ p (W3 i)) p ≡ ready i = phase-now T s₁ p (W3 i) in
       let on : On (T .own-level p) i = range-of (phase T s p) (T .own-level p) (inv .range p) (clean i) was in
-      let lv : hold-level (T .own-level p) (phase T s p) ≤ suc i = rw was (omega arith) in
+      let lv : holds-from T (view T s) p ≤ suc i = rw was (omega arith) in
       record {
         queues = kept-by T G (view T s) inv p (phase T (go s₁ p (W3 i))) (s .nexts) (record {
           levels = rw (now, was);
@@ -241,9 +241,9 @@ module _ (L : Plan) (G : Lawful (L .tree)) (small : (q j : ℕ) → L .hand-over
       by false false false x y z = v
 
   -- a rank writes its own STATUS
-  wrote : (p i u : ℕ) (g : Place) → On (T .own-level p) i → hold-level (T .own-level p) (phase T s p) ≤ suc i
+  wrote : (p i u : ℕ) (g : Place) → On (T .own-level p) i → holds-from T (view T s) p ≤ suc i
       → hold-level (T .own-level p) (phase-of g (upd (s .statuses) (T .node p i) u (T .node p (status-level g))))
-      ≡ hold-level (T .own-level p) (phase T s p)
+      ≡ holds-from T (view T s) p
       → InRange (T .own-level p) (phase-of g (upd (s .statuses) (T .node p i) u (T .node p (status-level g))))
       → ((j : ℕ) → Waits (phase T s p) j → ⊥)
       → Calm (phase-of g (upd (s .statuses) (T .node p i) u (T .node p (status-level g))))
@@ -275,7 +275,7 @@ module _ (L : Plan) (G : Lawful (L .tree)) (small : (q j : ℕ) → L .hand-over
       on : On (T .own-level p) i
       on = range-of (phase T s p) (T .own-level p) (inv .range p) (hold i) was
 
-      lv : hold-level (T .own-level p) (phase T s p) ≡ i
+      lv : holds-from T (view T s) p ≡ i
       lv = ap (hold-level (T .own-level p)) was
 
       so : Counts L (s .statuses) p (suc i)
@@ -418,7 +418,7 @@ module _ (L : Plan) (G : Lawful (L .tree)) (small : (q j : ℕ) → L .hand-over
       r≢p : r ≢ p
       r≢p z = subst (λ f. Waits f i) (sym (n .waits) ∙ (ap (phase T s) z ∙ was)) refl
 
-      lv : hold-level (T .own-level r) (phase T s r) ≤ suc i
+      lv : holds-from T (view T s) r ≤ suc i
       lv = rw (n .waits) (omega arith)
 
   -- two ranks of one element have one way up from it

@@ -10,9 +10,9 @@ use lib.Dec.{eqb}
 use native.Mathlib.Omega.{arith}
 use Rattle.std.proofs.shelf.Tests.{cases-lt, eq-eqb, lt-ltb, le-ltb, lt-leb}
 use Rattle.std.proofs.shelf.Ways.{tells}
-use Rattle.queues.specs.Machine.{Tree, On, hold-level, Inv}
+use Rattle.queues.specs.Machine.{holds-from, Tree, On, hold-level, Inv}
 use Rattle.queues.specs.Counters.{total, tries, admits, clears, Marks, shut, none}
-use Rattle.queues.specs.Table.{Place, Idle, R1, R3, R4, R5, R6, R7, Reader, Plan, Lock, status-level, phase, view, go}
+use Rattle.queues.specs.Table.{Place, Idle, R1, R3, R4, R5, R6, R7, Reader, Plan, Lock, status-level, view, go}
 use Rattle.queues.specs.Table.{put-arrive, put-depart, row}
 use Rattle.queues.specs.Invariant.{load-of, gate, Within}
 use Rattle.queues.specs.Moves.{tag, AtRest, Apt, WayBack}
@@ -66,7 +66,7 @@ module _ (P : ℕ) (L : Plan) (g : Apt P L) where
 
   -- such ranks hold nothing
   still-phase : (s : Lock) → Resting s → (q : ℕ) → On (T .own-level q) 1
-      → hold-level (T .own-level q) (phase T s q) ≡ suc (T .own-level q)
+      → holds-from T (view T s) q ≡ suc (T .own-level q)
   still-phase s v q o = ⊎-elim
       (λ (e : s .place q ≡ Idle). ap (hold-level (T .own-level q)) (phase-at T s q Idle e))
       (λ (e : s .place q ≡ R3). ap (hold-level (T .own-level q)) (phase-at T s q R3 e))
@@ -76,7 +76,7 @@ module _ (P : ℕ) (L : Plan) (g : Apt P L) where
   still-gate : (s : Lock) → Resting s → (q c : ℕ) → Marks (gate T s q) c → ⊥
   still-gate s v q c m = ⊎-elim
       (λ (z : gate T s q ≡ shut). subst (λ x. Marks x c) z m)
-      (λ (z : (hold-level (T .own-level q) (phase T s q) ≡ 1) × On (T .own-level q) 1).
+      (λ (z : (holds-from T (view T s) q ≡ 1) × On (T .own-level q) 1).
       absurd (omega (arith, still-phase s v q (z .1))))
       (gate-phase (T .own-level q) (s .place q) (s .statuses (T .node q (status-level (s .place q))))
       (v .0 .safe .fine .queues .range q))
