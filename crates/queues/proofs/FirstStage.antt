@@ -75,7 +75,7 @@ accepts : (L : Plan) (s : Lock) (p : ℕ) (f : Place) → ((q j : ℕ) → L .ha
 accepts L s p f c r so w a b = grind (arith, tells)
 
 -- what a rank is about to link itself to is the node of a rank
-link-aims : (T : Tree) → Lawful T → (s : State) → Inv T s → (p i t : ℕ) → s .phases p ≡ link i t → Node T t
+pub link-aims : (T : Tree) → Lawful T → (s : State) → Inv T s → (p i t : ℕ) → s .phases p ≡ link i t → Node T t
 link-aims T G s v p i t e =
     let l : Linking T s p i t = asked T s v p (link i t) e in
     let o : Occupant T s (T .element p i) (l .spot .turn) =
@@ -83,7 +83,7 @@ link-aims T G s v p i t e =
     record { rank = o .rank; level = o .level; on = o .on; is = l .target ∙ o .is }
 
 -- and so is what a rank hands over to
-give-aims : (T : Tree) → Lawful T → (s : State) → Inv T s → (p h i t : ℕ) → s .phases p ≡ give h i t → Node T t
+pub give-aims : (T : Tree) → Lawful T → (s : State) → Inv T s → (p h i t : ℕ) → s .phases p ≡ give h i t → Node T t
 give-aims T G s v p h i t e =
     let n : Successor T s p i t = successor T G s v p h i t e in
     record { rank = n .rank; level = i; on = n .on; is = n .target }
