@@ -2,7 +2,7 @@
 -- holds element 1, which has one holder: so one rank at most stands for write bits. Rows of readers drain or enter;
 -- rows of that writer set, read or clear; a hand-over of the section passes all bits on; and all others leave loads
 -- and gates alone.
-use Prim.Native.Nat.{ℕ, suc, pred, _+_, _-_, _*_, _^_, _≤_, _<_}
+use Prim.Native.Nat.{ℕ, suc, pred, _+_, _-_, _*_, _≤_, _<_}
 use mathlib.Core.Path.{_≡_, refl, sym, _∙_, ap, subst}
 use mathlib.Core.Logic.{_⊎_, _≢_, ⊎-elim}
 use mathlib.Core.Bool.{Bool, true, false, cond}
@@ -477,7 +477,7 @@ module _ (P : ℕ) (L : Plan) (sensible : Sensible P L) (s : Lock) (bit : ℕ �
   -- W9 goes on where nobody is in, and reads again elsewhere
   count-W9 : (p k n : ℕ) → On P p → On (T .own-level p) 1 → k < C → s .place p ≡ W9 k n
       → Right (row L s p (W9 k n)) bit
-  count-W9 p k n on o l e = by (eqb n (2 ^ 62 + s .departs k)) (ltb (suc k) C) refl refl
+  count-W9 p k n on o l e = by (eqb n (write-bit + s .departs k)) (ltb (suc k) C) refl refl
     where
       g : gate T s p ≡ reading k n
       g = gate-at T s p (W9 k n) e
@@ -485,7 +485,7 @@ module _ (P : ℕ) (L : Plan) (sensible : Sensible P L) (s : Lock) (bit : ℕ �
       old : (c : ℕ) → c < C → c < k → (q : ℕ) → On P q → load q ≢ inside c
       old c m w = v .counted .kept p c m (rw g w)
 
-      new : n ≡ 2 ^ 62 + s .departs k → (c : ℕ) → c < C → c ≤ k → (q : ℕ) → On P q → load q ≢ inside c
+      new : n ≡ write-bit + s .departs k → (c : ℕ) → c < C → c ≤ k → (q : ℕ) → On P q → load q ≢ inside c
       new z c m w = ⊎-elim
           (λ (y : c ≡ k).
           subst
@@ -495,18 +495,18 @@ module _ (P : ℕ) (L : Plan) (sensible : Sensible P L) (s : Lock) (bit : ℕ �
           (λ (y : c ≡ k → ⊥). old c m (omega arith))
           (cases-eq c k)
 
-      by : (a b : Bool) → eqb n (2 ^ 62 + s .departs k) ≡ a → ltb (suc k) C ≡ b
+      by : (a b : Bool) → eqb n (write-bit + s .departs k) ≡ a → ltb (suc k) C ≡ b
           → Right (go s p (cond a (cond b (W8 (suc k)) Writer) (W8 k))) bit
       by true true x y = turn p (W9 k n) (W8 (suc k)) on o e (level-1 p (W9 k n) e (λ w. refl)) refl refl
           (checking (suc k)) refl
           (λ c m w. rw g tt)
           (λ c m w. tt)
-          (λ c m w. new (eqb-true n (2 ^ 62 + s .departs k) x) c m (omega arith))
+          (λ c m w. new (eqb-true n (write-bit + s .departs k) x) c m (omega arith))
           (λ j i w. absurd (let z : _≡_ {A = ℕ} 0 1 = cc in omega arith))
       by true false x y = turn p (W9 k n) Writer on o e (level-1 p (W9 k n) e (λ w. refl)) refl refl wide refl
           (λ c m w. rw g tt)
           (λ c m w. tt)
-          (λ c m w. new (eqb-true n (2 ^ 62 + s .departs k) x) c m (omega (arith, ltb-false (suc k) C y)))
+          (λ c m w. new (eqb-true n (write-bit + s .departs k) x) c m (omega (arith, ltb-false (suc k) C y)))
           (λ j i w. absurd (let z : _≡_ {A = ℕ} 0 1 = cc in omega arith))
       by false b x y = turn p (W9 k n) (W8 k) on o e (level-1 p (W9 k n) e (λ w. refl)) refl refl (checking k) refl
           (λ c m w. rw g tt)
@@ -553,13 +553,13 @@ module _ (P : ℕ) (L : Plan) (sensible : Sensible P L) (s : Lock) (bit : ℕ �
       at : (q : Place) (h : Gate) → load-of (L .home p) q ≡ none
           → gate-of q (s .statuses (T .node p (status-level q))) ≡ h → ((c : ℕ) → c < C → Marks h c → c < suc k)
           → ((c : ℕ) → c < C → c < suc k → Marks h c) → ((c : ℕ) → Keeps h c → ⊥) → ((j n : ℕ) → h ≡ reading j n → ⊥)
-          → Right (go (put-arrive s k (s .arrives k + 2 ^ 62)) p q) (upd bit k 1)
-      at q h lq gq a b c d = flip p k (W7 k) q (upd (s .arrives) k (s .arrives k + 2 ^ 62)) (upd bit k 1) on o e lv
+          → Right (go (put-arrive s k (s .arrives k + write-bit)) p q) (upd bit k 1)
+      at q h lq gq a b c d = flip p k (W7 k) q (upd (s .arrives) k (s .arrives k + write-bit)) (upd bit k 1) on o e lv
           (λ d ne. rw lq (refl, refl, refl))
-          (λ d ne. upd-other (s .arrives) k (s .arrives k + 2 ^ 62) d ne)
+          (λ d ne. upd-other (s .arrives) k (s .arrives k + write-bit) d ne)
           (λ d ne. upd-other bit k 1 d ne)
           (omega (arith, up))
-          (rw lq (omega (arith, up, down, upd-same (s .arrives) k (s .arrives k + 2 ^ 62))))
+          (rw lq (omega (arith, up, down, upd-same (s .arrives) k (s .arrives k + write-bit))))
           (rw lq (omega arith))
           h
           gq
@@ -570,7 +570,7 @@ module _ (P : ℕ) (L : Plan) (sensible : Sensible P L) (s : Lock) (bit : ℕ �
 
       by : (b : Bool) → ltb (suc k) C ≡ b
           → Right
-          (go (put-arrive s k (s .arrives k + 2 ^ 62)) p
+          (go (put-arrive s k (s .arrives k + write-bit)) p
           (cond b (W7 (suc k)) (W8 0)))
           (upd bit k 1)
       by true z = at (W7 (suc k)) (raising (suc k)) refl refl
@@ -618,11 +618,11 @@ module _ (P : ℕ) (L : Plan) (sensible : Sensible P L) (s : Lock) (bit : ℕ �
       at : (q : Place) (h : Gate) → load-of (L .home p) q ≡ none
           → gate-of q (s .statuses (T .node p (status-level q))) ≡ h → ((c : ℕ) → c < C → Marks h c → suc k ≤ c)
           → ((c : ℕ) → c < C → suc k ≤ c → Marks h c) → ((c : ℕ) → Keeps h c → ⊥) → ((j n : ℕ) → h ≡ reading j n → ⊥)
-          → Right (go (put-arrive s k (s .arrives k - (2 ^ 62 + n))) p q) (upd bit k 0)
-      at q h lq gq a b c d = flip p k (U7 k n) q (upd (s .arrives) k (s .arrives k - (2 ^ 62 + n))) (upd bit k 0) on o
-          e lv
+          → Right (go (put-arrive s k (s .arrives k - (write-bit + n))) p q) (upd bit k 0)
+      at q h lq gq a b c d = flip p k (U7 k n) q (upd (s .arrives) k (s .arrives k - (write-bit + n))) (upd bit k 0)
+          on o e lv
           (λ d ne. rw lq (refl, refl, sym (pick-other k n d (λ z. ne (sym z)))))
-          (λ d ne. upd-other (s .arrives) k (s .arrives k - (2 ^ 62 + n)) d ne)
+          (λ d ne. upd-other (s .arrives) k (s .arrives k - (write-bit + n)) d ne)
           (λ d ne. upd-other bit k 0 d ne)
           (omega (arith, low))
           (rw lq
@@ -632,7 +632,7 @@ module _ (P : ℕ) (L : Plan) (sensible : Sensible P L) (s : Lock) (bit : ℕ �
             stood,
             has,
             pick-same k n,
-            upd-same (s .arrives) k (s .arrives k - (2 ^ 62 + n)),
+            upd-same (s .arrives) k (s .arrives k - (write-bit + n)),
           )))
           (rw lq (omega arith))
           h
@@ -644,7 +644,7 @@ module _ (P : ℕ) (L : Plan) (sensible : Sensible P L) (s : Lock) (bit : ℕ �
 
       by : (b : Bool) → ltb (suc k) C ≡ b
           → Right
-          (go (put-arrive s k (s .arrives k - (2 ^ 62 + n))) p
+          (go (put-arrive s k (s .arrives k - (write-bit + n))) p
           (cond b (U6 (suc k)) (U8 1)))
           (upd bit k 0)
       by true z = at (U6 (suc k)) (lowering (suc k)) refl refl
@@ -958,11 +958,11 @@ module _ (P : ℕ) (L : Plan) (sensible : Sensible P L) (s : Lock) (bit : ℕ �
   count-row p on o R2 e = count-R2 p on e
   count-row p on o R3 e = plain p R3
       (cond (ltb (s .arrives (L .home p)) (L .reader-threshold)) R1
-      (cond (leb (2 ^ 62) (s .arrives (L .home p))) R3 R4))
+      (cond (leb write-bit (s .arrives (L .home p))) R3 R4))
       e
       (two p R3 (ltb (s .arrives (L .home p)) (L .reader-threshold)) R1
-      (cond (leb (2 ^ 62) (s .arrives (L .home p))) R3 R4) (refl, refl)
-      (two p R3 (leb (2 ^ 62) (s .arrives (L .home p))) R3 R4 (refl, refl) (refl, refl)))
+      (cond (leb write-bit (s .arrives (L .home p))) R3 R4) (refl, refl)
+      (two p R3 (leb write-bit (s .arrives (L .home p))) R3 R4 (refl, refl) (refl, refl)))
   count-row p on o R4 e = plain p R4 (cond (eqb (s .tails (T .element p 1)) 0) R5 R3) e
       (two p R4 (eqb (s .tails (T .element p 1)) 0) R5 R3 (refl, refl) (refl, refl))
   count-row p on o R5 e = count-R5 p on e
@@ -1013,8 +1013,8 @@ module _ (P : ℕ) (L : Plan) (sensible : Sensible P L) (s : Lock) (bit : ℕ �
       (λ z. ltb-true (suc k) C z)
       (λ _. omega (arith, homes p)))
   within-all p (W8 k) e = within-row p (W9 k (s .arrives k)) (subst (Within C) e (v .within p))
-  within-all p (W9 k n) e = within-row p (cond (eqb n (2 ^ 62 + s .departs k)) (next L s p k Writer W8) (W8 k))
-      (cond-both (eqb n (2 ^ 62 + s .departs k)) (next L s p k Writer W8) (W8 k) (Within C)
+  within-all p (W9 k n) e = within-row p (cond (eqb n (write-bit + s .departs k)) (next L s p k Writer W8) (W8 k))
+      (cond-both (eqb n (write-bit + s .departs k)) (next L s p k Writer W8) (W8 k) (Within C)
       (λ _. cond-both (ltb (suc k) C) (W8 (suc k)) (Writer) (Within C) (λ z. ltb-true (suc k) C z) (λ _. tt))
       (λ _. subst (Within C) e (v .within p)))
   within-all p (U1 i) e = within-row p (U2 i (s .statuses (T .node p i))) (tt)
@@ -1060,11 +1060,11 @@ module _ (P : ℕ) (L : Plan) (sensible : Sensible P L) (s : Lock) (bit : ℕ �
   within-all p R2 e = within-row p (R3) (tt)
   within-all p R3 e = within-row p
       (cond (ltb (s .arrives (L .home p)) (L .reader-threshold)) R1
-      (cond (leb (2 ^ 62) (s .arrives (L .home p))) R3 R4))
+      (cond (leb write-bit (s .arrives (L .home p))) R3 R4))
       (cond-both (ltb (s .arrives (L .home p)) (L .reader-threshold)) (R1)
-      (cond (leb (2 ^ 62) (s .arrives (L .home p))) R3 R4) (Within C)
+      (cond (leb write-bit (s .arrives (L .home p))) R3 R4) (Within C)
       (λ _. tt)
-      (λ _. cond-both (leb (2 ^ 62) (s .arrives (L .home p))) (R3) (R4) (Within C) (λ _. tt) (λ _. tt)))
+      (λ _. cond-both (leb write-bit (s .arrives (L .home p))) (R3) (R4) (Within C) (λ _. tt) (λ _. tt)))
   within-all p R4 e = within-row p (cond (eqb (s .tails (T .element p 1)) 0) R5 R3)
       (cond-both (eqb (s .tails (T .element p 1)) 0) (R5) (R3) (Within C) (λ _. tt) (λ _. tt))
   within-all p R5 e = within-row p (R6 (s .departs (L .home p))) (tt)

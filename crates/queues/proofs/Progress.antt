@@ -1,7 +1,7 @@
 -- Somebody can always move. Whoever waits, waits for an element that some rank holds; if that one waits too, it waits
 -- higher up, so the search ends at a rank that does not wait. A holder whose node is not the TAIL has a rank right
 -- behind it. And while nobody carries anything of a counter, the writer's test at W9 succeeds.
-use Prim.Native.Nat.{ℕ, zero, suc, _+_, _^_, _≤_, _<_}
+use Prim.Native.Nat.{ℕ, zero, suc, _+_, _≤_, _<_}
 use mathlib.Core.Path.{_≡_, refl, sym, _∙_, ap, subst}
 use mathlib.Core.Logic.{_⊎_, inl, inr, _≢_, ⊎-elim}
 use native.Mathlib.Omega.{arith}
@@ -10,7 +10,7 @@ use Rattle.queues.specs.Machine.{holds-from, Tree, Lawful, On, Phase, out, fre
 use Rattle.queues.specs.Machine.{give, hold-level, InRange, Waits, State, Inv, Holder, Member, Heads, Behind}
 use Rattle.queues.specs.Table.{Place, Idle, W1, W2, W3, W4, W5, W6, W7, W8, W9, U1, U2, U3, U4, U5, U6, U7, U8, U9}
 use Rattle.queues.specs.Table.{U10, R1, R2, R3, R4, R5, R6, R7, Writer, Reader, told-status, Plan, Lock}
-use Rattle.queues.specs.Counters.{total, tries, admits, clears, Tally, Counted}
+use Rattle.queues.specs.Counters.{write-bit, total, tries, admits, clears, Tally, Counted}
 use Rattle.queues.proofs.OneHolder.{asked, waits-cases, turn-is}
 use Rattle.queues.proofs.Sums.{total-same, total-zero, total-swap}
 
@@ -71,7 +71,7 @@ Able L s p (W5 i) = (s .statuses (L .tree .node p i) ≤ 1000) ⊎ (s .statuses 
 Able L s p (W6 i) = Unit {0}
 Able L s p (W7 k) = k < L .counters
 Able L s p (W8 k) = k < L .counters
-Able L s p (W9 k n) = (k < L .counters) × (n ≡ 2 ^ 62 + s .departs k)
+Able L s p (W9 k n) = (k < L .counters) × (n ≡ write-bit + s .departs k)
 Able L s p (U1 i) = Unit {0}
 Able L s p (U2 i n) = 2 ≤ i
 Able L s p (U3 i t n) = On (L .tree .own-level p) i
@@ -154,7 +154,7 @@ follower T G s v p i e ne = found (v .member k (s .head-turn k) (omega arith) mo
 -- while no rank carries anything of the counter and its bit stands, ARRIVE is what W9 wants
 pub passes : (P C limit : ℕ) (s : Tally) → Counted P C limit s → (k : ℕ) → k < C → s .bit k ≡ 1
     → ((q : ℕ) → On P q → (tries (s .load q) k ≡ 0) × (admits (s .load q) k ≡ 0) × (clears (s .load q) k ≡ 0))
-    → s .arrives k ≡ 2 ^ 62 + s .departs k
+    → s .arrives k ≡ write-bit + s .departs k
 passes P C limit s v k l b h =
     let x : total P (λ q. tries (s .load q) k) ≡ 0 =
     total-same P (λ q. 0) (λ q. tries (s .load q) k) (λ q a b. h q (record { from = a; upto = b }) .0)

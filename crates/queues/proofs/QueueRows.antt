@@ -1,7 +1,7 @@
 -- Each row, ask and leave keeps the queues and the statuses. A row is one of the five moves of OwnMoves, Join, Link,
 -- HandOver and Release, or leaves all phases alone. A STATUS is written at a node that its own rank uses, or at the
 -- successor's in a hand-over, and so changes what one rank finds.
-use Prim.Native.Nat.{ℕ, suc, pred, _+_, _-_, _^_, _≤_, _<_}
+use Prim.Native.Nat.{ℕ, suc, pred, _+_, _-_, _≤_, _<_}
 use mathlib.Core.Path.{_≡_, refl, sym, _∙_, ap, subst}
 use mathlib.Core.Logic.{_⊎_, inl, inr, _≢_, ⊎-elim}
 use mathlib.Core.Bool.{Bool, true, false, cond}
@@ -12,6 +12,7 @@ use Rattle.std.proofs.shelf.Tests.{cases-eq, cases-order, cond-both, eqb-true, 
 use Rattle.std.proofs.shelf.Tests.{ltb-true}
 use Rattle.queues.specs.Machine.{holds-from, Tree, Lawful, On, Phase, out, fresh, clean, ready, link, wait, hold}
 use Rattle.queues.specs.Machine.{give, hold-level, InRange, Waits, Calm, Asks, Inv}
+use Rattle.queues.specs.Counters.{write-bit}
 use Rattle.queues.specs.Table.{Place, Idle, W1, W2, W3, W4, W5, W6, W7, W8, W9, U1, U2, U3, U4, U5, U6, U7, U8, U9}
 use Rattle.queues.specs.Table.{with-counts, U10, R1, R2, R3, R4, R5, R6, R7, Writer, Reader, WAIT, told-status, Plan}
 use Rattle.queues.specs.Table.{Lock, upd, phase-of, status-level, phase, view, Counts, Sound, Fine, go, put-status}
@@ -608,16 +609,17 @@ module _ (L : Plan) (G : Lawful (L .tree)) (small : (q j : ℕ) → L .hand-over
   fine-row p o (W6 i) e = fine-W6 p i e
   fine-row p o (W7 n) e =
       let so = subst (Sound L (s .statuses) p) e (v .sound p) in
-      to (hold 1) tt p (phase-at T s p (W7 n) e) (next L s p n (W8 0) W7) (upd (s .arrives) n (s .arrives n + 2 ^ 62))
-      (s .departs) (after p n so (W8 0) W7 ((λ w. refl), so) (λ k. ((λ w. refl), so)))
+      to (hold 1) tt p (phase-at T s p (W7 n) e) (next L s p n (W8 0) W7)
+      (upd (s .arrives) n (s .arrives n + write-bit)) (s .departs)
+      (after p n so (W8 0) W7 ((λ w. refl), so) (λ k. ((λ w. refl), so)))
   fine-row p o (W8 n) e =
       let so = subst (Sound L (s .statuses) p) e (v .sound p) in
       to (hold 1) tt p (phase-at T s p (W8 n) e) (W9 n (s .arrives n)) (s .arrives) (s .departs) ((λ w. refl), so)
   fine-row p o (W9 n a) e =
       let so = subst (Sound L (s .statuses) p) e (v .sound p) in
       to (hold 1) tt p (phase-at T s p (W9 n a) e)
-      (cond (eqb a (2 ^ 62 + s .departs n)) (next L s p n Writer W8) (W8 n)) (s .arrives) (s .departs)
-      (cond-both (eqb a (2 ^ 62 + s .departs n)) (next L s p n Writer W8) (W8 n) (At (hold 1) p)
+      (cond (eqb a (write-bit + s .departs n)) (next L s p n Writer W8) (W8 n)) (s .arrives) (s .departs)
+      (cond-both (eqb a (write-bit + s .departs n)) (next L s p n Writer W8) (W8 n) (At (hold 1) p)
       (λ _. after p n so Writer W8 ((λ w. refl), so) (λ k. ((λ w. refl), so)))
       (λ _. ((λ w. refl), so)))
   fine-row p o (U1 i) e =
@@ -643,7 +645,7 @@ module _ (L : Plan) (G : Lawful (L .tree)) (small : (q j : ℕ) → L .hand-over
   fine-row p o (U7 n a) e =
       let so = subst (Sound L (s .statuses) p) e (v .sound p) in
       to (hold 1) tt p (phase-at T s p (U7 n a) e) (next L s p n (U8 1) U6)
-      (upd (s .arrives) n (s .arrives n - (2 ^ 62 + a))) (s .departs)
+      (upd (s .arrives) n (s .arrives n - (write-bit + a))) (s .departs)
       (after p n so (U8 1) U6 ((λ w. refl), tt) (λ k. ((λ w. refl), so)))
   fine-row p o (U8 i) e = fine-U8 p i e
   fine-row p o (U9 i t) e = fine-U9 p i t e
@@ -656,11 +658,11 @@ module _ (L : Plan) (G : Lawful (L .tree)) (small : (q j : ℕ) → L .hand-over
       (upd (s .arrives) (L .home p) (pred (s .arrives (L .home p)))) (s .departs) ((λ w. refl), tt)
   fine-row p o R3 e = to out tt p (phase-at T s p R3 e)
       (cond (ltb (s .arrives (L .home p)) (L .reader-threshold)) R1
-      (cond (leb (2 ^ 62) (s .arrives (L .home p))) R3 R4))
+      (cond (leb write-bit (s .arrives (L .home p))) R3 R4))
       (s .arrives) (s .departs)
       (either p (ltb (s .arrives (L .home p)) (L .reader-threshold)) R1
-      (cond (leb (2 ^ 62) (s .arrives (L .home p))) R3 R4) ((λ w. refl), tt)
-      (either p (leb (2 ^ 62) (s .arrives (L .home p))) R3 R4 ((λ w. refl), tt) ((λ w. refl), tt)))
+      (cond (leb write-bit (s .arrives (L .home p))) R3 R4) ((λ w. refl), tt)
+      (either p (leb write-bit (s .arrives (L .home p))) R3 R4 ((λ w. refl), tt) ((λ w. refl), tt)))
   fine-row p o R4 e = to out tt p (phase-at T s p R4 e) (cond (eqb (s .tails (T .element p 1)) 0) R5 R3) (s .arrives)
       (s .departs) (either p (eqb (s .tails (T .element p 1)) 0) R5 R3 ((λ w. refl), tt) ((λ w. refl), tt))
   fine-row p o R5 e = to out tt p (phase-at T s p R5 e) (R6 (s .departs (L .home p))) (s .arrives)

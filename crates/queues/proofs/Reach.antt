@@ -1,4 +1,5 @@
--- What can be reached by steps and leaves, and the descent that all three stages share.
+-- What can be reached by steps and leaves, and the descent that all three stages of the way back share: each rank has
+-- a number; while one is above 0, some moves lower the sum of the numbers; so some moves lead to where all are 0.
 use Prim.Native.Nat.{ℕ, zero, suc, _+_, _≤_, _<_}
 use mathlib.Core.Path.{_≡_, refl}
 use mathlib.Core.Logic.{_⊎_, inl, inr}

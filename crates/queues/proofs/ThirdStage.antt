@@ -2,7 +2,7 @@
 -- empty, no write bit stands, and ARRIVE is DEPART. So a reader at R3 comes in and leaves, in four moves; where
 -- ARRIVE has reached the threshold it first takes DEPART out of both words, in four more. Then every rank is idle,
 -- and the words are at rest.
-use Prim.Native.Nat.{ℕ, suc, _-_, _^_, _≤_, _<_}
+use Prim.Native.Nat.{ℕ, suc, _-_, _≤_, _<_}
 use mathlib.Core.Path.{_≡_, refl, _∙_, ap, subst}
 use mathlib.Core.Logic.{_⊎_, inl, inr, _≢_, ⊎-elim}
 use mathlib.Core.Bool.{cond}
@@ -11,7 +11,7 @@ use native.Mathlib.Omega.{arith}
 use Rattle.std.proofs.shelf.Tests.{cases-lt, eq-eqb, lt-ltb, le-ltb, lt-leb}
 use Rattle.std.proofs.shelf.Ways.{tells}
 use Rattle.queues.specs.Machine.{holds-from, Tree, On, hold-level, Inv}
-use Rattle.queues.specs.Counters.{total, tries, admits, clears, Marks, shut, none}
+use Rattle.queues.specs.Counters.{write-bit, total, tries, admits, clears, Marks, shut, none}
 use Rattle.queues.specs.Table.{Place, Idle, R1, R3, R4, R5, R6, R7, Reader, Plan, Lock, status-level, view, go}
 use Rattle.queues.specs.Table.{put-arrive, put-depart, row}
 use Rattle.queues.specs.Invariant.{load-of, gate, Within}
@@ -177,7 +177,7 @@ module _ (P : ℕ) (L : Plan) (g : Apt P L) where
   clear-first s v p on e l = by-step P L g (Home s p) s (v .0) p on R3 e (omega arith)
       (rw (
         le-ltb (s .arrives c) (L .reader-threshold) l,
-        lt-leb (2 ^ 62) (s .arrives c) (omega (arith, all .counts c hc, all .small c hc, g .less)),
+        lt-leb write-bit (s .arrives c) (omega (arith, all .counts c hc, all .small c hc, g .less)),
       )
       second)
     where

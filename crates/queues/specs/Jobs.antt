@@ -1,4 +1,5 @@
--- The jobs of the abstract machine, and what is claimed of them first: a writer that is in is alone.
+-- The jobs of the abstract machine, and what is claimed of them first: a writer that is in is alone. A job starts with
+-- the lock in which nothing has happened, and goes on by any calls that the machine accepts.
 use Prim.Native.Nat.{ℕ, _≤_, _<_}
 use mathlib.Core.Path.{_≡_}
 use mathlib.Core.Bool.{cond}

@@ -7,6 +7,7 @@ use mathlib.Core.Logic.{_⊎_}
 use mathlib.Core.Bool.{cond}
 use lib.Dec.{eqb, leb, ltb}
 use Rattle.queues.specs.Machine.{Tree, On, Phase, out, fresh, clean, ready, link, wait, hold, give, State, Inv}
+use Rattle.queues.specs.Counters.{write-bit}
 pub use Rattle.places.specs.declared.place.Place.{Place}
 pub use Rattle.places.specs.declared.place.Place.the-variants.{Idle, W1, W2, W3, W4, W5, W6, W7, W8, W9, U1}
 pub use Rattle.places.specs.declared.place.Place.the-variants.{U2, U3, U4, U5, U6, U7, U8, U9, U10, R1, R2, R3, R4}
@@ -190,9 +191,9 @@ module _ (L : Plan) (s : Lock) (p : ℕ) where
       (cond (leb (s .statuses (x i)) 1000) (go s p Writer)
       (cond (eqb (s .statuses (x i)) (told-status i)) (go s p (W6 i)) s))
   row (W6 i) = go (put-status s (x i) 0) p (cond (leb 2 i) (W1 (pred i)) (W7 0))
-  row (W7 n) = go (put-arrive s n (s .arrives n + 2 ^ 62)) p (next n (W8 0) W7)
+  row (W7 n) = go (put-arrive s n (s .arrives n + write-bit)) p (next n (W8 0) W7)
   row (W8 n) = go s p (W9 n (s .arrives n))
-  row (W9 n a) = go s p (cond (eqb a (2 ^ 62 + s .departs n)) (next n Writer W8) (W8 n))
+  row (W9 n a) = go s p (cond (eqb a (write-bit + s .departs n)) (next n Writer W8) (W8 n))
   row (U1 i) = go s p (U2 i (s .statuses (x i)))
   row (U2 i n) = go s p
       (cond (eqb (s .nexts (x i)) 0) (cond (leb i 2) U4 (U1 (pred i)))
@@ -203,13 +204,13 @@ module _ (L : Plan) (s : Lock) (p : ℕ) where
       (cond (eqb (s .nexts (x 1)) 0) (U6 0)
       (cond (ltb n (L .hand-over-limit p 1)) (U3 1 (s .nexts (x 1)) (suc n)) (U6 0)))
   row (U6 n) = go (put-depart s n 0) p (U7 n (s .departs n))
-  row (U7 n a) = go (put-arrive s n (s .arrives n - (2 ^ 62 + a))) p (next n (U8 1) U6)
+  row (U7 n a) = go (put-arrive s n (s .arrives n - (write-bit + a))) p (next n (U8 1) U6)
   row (U8 i) = go s p (cond (eqb (s .nexts (x i)) 0) (U10 i) (U9 i (s .nexts (x i))))
   row (U9 i t) = go (drop (put-status s t (told-status i)) (k i)) p (done i)
   row (U10 i) = cond (eqb (s .tails (k i)) (x i)) (go (free s (k i)) p (done i)) (go s p (U8 i))
   row R1 = go (put-arrive s c (suc (s .arrives c))) p (cond (ltb (s .arrives c) (L .reader-threshold)) Reader R2)
   row R2 = go (put-arrive s c (pred (s .arrives c))) p R3
-  row R3 = go s p (cond (ltb (s .arrives c) (L .reader-threshold)) R1 (cond (leb (2 ^ 62) (s .arrives c)) R3 R4))
+  row R3 = go s p (cond (ltb (s .arrives c) (L .reader-threshold)) R1 (cond (leb write-bit (s .arrives c)) R3 R4))
   row R4 = go s p (cond (eqb (s .tails (k 1)) 0) R5 R3)
   row R5 = go (put-depart s c 0) p (R6 (s .departs c))
   row (R6 n) = go (put-arrive s c (s .arrives c - n)) p R3
