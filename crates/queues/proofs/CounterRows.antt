@@ -11,6 +11,7 @@ use native.Mathlib.Omega.{arith}
 use Rattle.std.proofs.shelf.Ways.{tells}
 use Rattle.std.proofs.shelf.Tests.{cases-eq, cases-lt, cond-both, eq-eqb, ne-eqb, le-leb, lt-leb, eqb-true, leb-false}
 use Rattle.std.proofs.shelf.Tests.{ltb-true, ltb-false}
+use Rattle.places.specs.Words.{most-hand-overs}
 use Rattle.queues.specs.Machine.{holds-from, Tree, Lawful, On, wait, hold, give, hold-level, InRange, Waits, Inv}
 use Rattle.queues.specs.Table.{Place, Idle, W1, W2, W3, W4, W5, W6, W7, W8, W9, U1, U2, U3, U4, U5, U6, U7, U8, U9}
 use Rattle.queues.specs.Table.{with-counts, with-statuses, put-arrive, U10, R1, R2, R3, R4, R5, R6, R7, Writer}
@@ -72,7 +73,7 @@ module _ (P : ℕ) (L : Plan) (sensible : Sensible P L) (s : Lock) (bit : ℕ �
   abbrev G : Lawful (L .tree)
   G = sensible .tree
 
-  abbrev small : (q j : ℕ) → L .hand-over-limit q j ≤ 1000
+  abbrev small : (q j : ℕ) → L .hand-over-limit q j ≤ most-hand-overs
   small = sensible .small
 
   abbrev ranks : (p : ℕ) → On (L .tree .own-level p) 1 → On P p
@@ -715,12 +716,12 @@ module _ (P : ℕ) (L : Plan) (sensible : Sensible P L) (s : Lock) (bit : ℕ �
 
   -- W5 enters with the bits that were handed over
   count-W5 : (p i : ℕ) → s .place p ≡ W5 i → Right (row L s p (W5 i)) bit
-  count-W5 p i e = by (eqb w WAIT) (leb w 1000) (eqb w (told-status i)) refl refl
+  count-W5 p i e = by (eqb w WAIT) (leb w most-hand-overs) (eqb w (told-status i)) refl refl
     where
       w : ℕ
       w = s .statuses (T .node p i)
 
-      by : (a b c : Bool) → eqb w WAIT ≡ a → leb w 1000 ≡ b
+      by : (a b c : Bool) → eqb w WAIT ≡ a → leb w most-hand-overs ≡ b
           → Right (cond a s (cond b (go s p Writer) (cond c (go s p (W6 i)) s))) bit
       by true b c x y = v .counted
       by false true c x y = plain p (W5 i) Writer e (rw (x, y) (refl, refl))
@@ -785,7 +786,10 @@ module _ (P : ℕ) (L : Plan) (sensible : Sensible P L) (s : Lock) (bit : ℕ �
       let m = n p 1 i t u (U3 i t u) e was in
       let so = subst (Sound L (s .statuses) p) e (v .fine .sound p) in
       let wd : gate-of (W5 i) u ≡ wide =
-      rw (ne-eqb u WAIT (omega (arith, so .0, small i)), le-leb u 1000 (omega (arith, so .0, small i))) in
+      rw (
+        ne-eqb u WAIT (omega (arith, so .0, small i)),
+        le-leb u most-hand-overs (omega (arith, so .0, small i)),
+      ) in
       subst
       (λ y. Right (go (put-status s y u) p (done L s p i)) bit)
       (sym (m .target))
@@ -819,8 +823,8 @@ module _ (P : ℕ) (L : Plan) (sensible : Sensible P L) (s : Lock) (bit : ℕ �
       let u = told-status i in
       let m = n p i i t u (U9 i t) e was in
       let on : (1 ≤ i) × (i ≤ i) × (i ≤ T .own-level p) = subst (InRange (T .own-level p)) was (inv .range p) in
-      let big : (WAIT < told-status i) × (1000 < told-status i) = told-large i in
-      let told : gate-of (W5 i) u ≡ shut = rw (ne-eqb u WAIT (omega arith), lt-leb u 1000 (omega arith)) in
+      let big : (WAIT < told-status i) × (most-hand-overs < told-status i) = told-large i in
+      let told : gate-of (W5 i) u ≡ shut = rw (ne-eqb u WAIT (omega arith), lt-leb u most-hand-overs (omega arith)) in
       let lr : holds-from T (view T s) (m .rank) ≡ suc i = ap (hold-level (T .own-level (m .rank))) (m .waits) in
       let before : gate T s (m .rank) ≡ shut =
       ⊎-elim
@@ -1004,8 +1008,8 @@ module _ (P : ℕ) (L : Plan) (sensible : Sensible P L) (s : Lock) (bit : ℕ �
       (λ _. tt)
       (λ _. tt))
   within-all p (W4 i t) e = within-row p (W5 i) (tt)
-  within-all p (W5 i) e = within-W5 p i (eqb (s .statuses (T .node p i)) WAIT) (leb (s .statuses (T .node p i)) 1000)
-      (eqb (s .statuses (T .node p i)) (told-status i))
+  within-all p (W5 i) e = within-W5 p i (eqb (s .statuses (T .node p i)) WAIT)
+      (leb (s .statuses (T .node p i)) most-hand-overs) (eqb (s .statuses (T .node p i)) (told-status i))
   within-all p (W6 i) e = within-row p (cond (leb 2 i) (W1 (pred i)) (W7 0))
       (cond-both (leb 2 i) (W1 (pred i)) (W7 0) (Within C) (λ _. tt) (λ _. omega (arith, homes p)))
   within-all p (W7 k) e = within-row p (next L s p k (W8 0) W7)

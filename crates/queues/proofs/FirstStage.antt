@@ -8,6 +8,7 @@ use mathlib.Core.Bool.{cond}
 use lib.Dec.{leb}
 use native.Mathlib.Omega.{arith}
 use Rattle.std.proofs.shelf.Ways.{tells}
+use Rattle.places.specs.Words.{most-hand-overs}
 use Rattle.queues.specs.Machine.{Tree, Lawful, On, Phase, out, fresh, clean, ready, link, wait, hold, give, InRange}
 use Rattle.queues.specs.Machine.{State, Inv, Linking}
 use Rattle.queues.specs.Counters.{total}
@@ -69,7 +70,7 @@ unfolding upd
 row-other L s p f q a = grind (arith, tells)
 
 -- a step is accepted where the invariant holds
-accepts : (L : Plan) (s : Lock) (p : ℕ) (f : Place) → ((q j : ℕ) → L .hand-over-limit q j ≤ 1000)
+accepts : (L : Plan) (s : Lock) (p : ℕ) (f : Place) → ((q j : ℕ) → L .hand-over-limit q j ≤ most-hand-overs)
     → InRange (L .tree .own-level p) (phase-of f (s .statuses (L .tree .node p (status-level f))))
     → Sound L (s .statuses) p f → Within (L .counters) f → Aims (L .tree) f → Busy f → Accepts L s p f
 accepts L s p f c r so w a b = grind (arith, tells)

@@ -6,6 +6,7 @@ use mathlib.Core.Path.{_≡_, refl, sym, _∙_, ap, subst}
 use mathlib.Core.Logic.{_⊎_, inl, inr, _≢_, ⊎-elim}
 use native.Mathlib.Omega.{arith}
 use Rattle.std.proofs.shelf.Tests.{cases-eq}
+use Rattle.places.specs.Words.{most-hand-overs}
 use Rattle.queues.specs.Machine.{holds-from, Tree, Lawful, On, Phase, out, fresh, clean, ready, link, wait, hold}
 use Rattle.queues.specs.Machine.{give, hold-level, InRange, Waits, State, Inv, Holder, Member, Heads, Behind}
 use Rattle.queues.specs.Table.{Place, Idle, W1, W2, W3, W4, W5, W6, W7, W8, W9, U1, U2, U3, U4, U5, U6, U7, U8, U9}
@@ -67,7 +68,8 @@ Able L s p (W1 i) = Unit {0}
 Able L s p (W2 i) = Unit {0}
 Able L s p (W3 i) = Unit {0}
 Able L s p (W4 i t) = Unit {0}
-Able L s p (W5 i) = (s .statuses (L .tree .node p i) ≤ 1000) ⊎ (s .statuses (L .tree .node p i) ≡ told-status i)
+Able L s p (W5 i) =
+    (s .statuses (L .tree .node p i) ≤ most-hand-overs) ⊎ (s .statuses (L .tree .node p i) ≡ told-status i)
 Able L s p (W6 i) = Unit {0}
 Able L s p (W7 k) = k < L .counters
 Able L s p (W8 k) = k < L .counters

@@ -10,6 +10,7 @@ use native.Mathlib.Omega.{arith}
 use Rattle.std.proofs.shelf.Ways.{tells}
 use Rattle.std.proofs.shelf.Tests.{cases-eq, cases-order, cond-both, eqb-true, eqb-false, leb-true, leb-false}
 use Rattle.std.proofs.shelf.Tests.{ltb-true}
+use Rattle.places.specs.Words.{most-hand-overs}
 use Rattle.queues.specs.Machine.{holds-from, Tree, Lawful, On, Phase, out, fresh, clean, ready, link, wait, hold}
 use Rattle.queues.specs.Machine.{give, hold-level, InRange, Waits, Calm, Asks, Inv}
 use Rattle.queues.specs.Counters.{write-bit}
@@ -65,7 +66,7 @@ pub done-sound : (L : Plan) (statuses : ℕ → ℕ) (p i : ℕ) (b : Bool) → 
 done-sound L statuses p i true = tt
 done-sound L statuses p i false = tt
 
-module _ (L : Plan) (G : Lawful (L .tree)) (small : (q j : ℕ) → L .hand-over-limit q j ≤ 1000) (s : Lock)
+module _ (L : Plan) (G : Lawful (L .tree)) (small : (q j : ℕ) → L .hand-over-limit q j ≤ most-hand-overs) (s : Lock)
     (v : Fine L s) where
   abbrev T : Tree
   T = L .tree
@@ -210,7 +211,7 @@ module _ (L : Plan) (G : Lawful (L .tree)) (small : (q j : ℕ) → L .hand-over
 
   -- W5 waits, or goes on as it was told
   fine-W5 : (p i : ℕ) → s .place p ≡ W5 i → Fine L (row L s p (W5 i))
-  fine-W5 p i e = by (eqb w WAIT) (leb w 1000) (eqb w (told-status i)) refl refl refl
+  fine-W5 p i e = by (eqb w WAIT) (leb w most-hand-overs) (eqb w (told-status i)) refl refl refl
     where
       w : ℕ
       w = s .statuses (T .node p i)
@@ -226,18 +227,18 @@ module _ (L : Plan) (G : Lawful (L .tree)) (small : (q j : ℕ) → L .hand-over
           ⊎-elim (λ (y : w ≡ told-status i). absurd (b y)) (λ (y : Counts L (s .statuses) p 1). y) z)
           (so .2)
 
-      by : (a b c : Bool) → eqb w WAIT ≡ a → leb w 1000 ≡ b → eqb w (told-status i) ≡ c
+      by : (a b c : Bool) → eqb w WAIT ≡ a → leb w most-hand-overs ≡ b → eqb w (told-status i) ≡ c
           → Fine L (cond a s (cond b (go s p Writer) (cond c (go s p (W6 i)) s)))
       by true b c x y z = v
       by false true c x y z =
-          let was : phase T s p ≡ hold 1 = phase-at T s p (W5 i) e ∙ w5-count i w (leb-true w 1000 y) in
+          let was : phase T s p ≡ hold 1 = phase-at T s p (W5 i) e ∙ w5-count i w (leb-true w most-hand-overs y) in
           moved p Writer (s .arrives) (s .departs) (rw was) (omega (arith, so .0))
           (λ j k. subst (λ f. Waits f j) was k)
           tt
-          (all (eqb-false w WAIT x) (omega (arith, told-large i, leb-true w 1000 y)))
+          (all (eqb-false w WAIT x) (omega (arith, told-large i, leb-true w most-hand-overs y)))
       by false false true x y z =
           let was : phase T s p ≡ hold i =
-          phase-at T s p (W5 i) e ∙ w5-told i w (eqb-false w WAIT x) (leb-false w 1000 y) in
+          phase-at T s p (W5 i) e ∙ w5-told i w (eqb-false w WAIT x) (leb-false w most-hand-overs y) in
           moved p (W6 i) (s .arrives) (s .departs) (rw was) (so .0) (λ j k. subst (λ f. Waits f j) was k) tt (so .1)
       by false false false x y z = v
 
@@ -443,7 +444,7 @@ module _ (L : Plan) (G : Lawful (L .tree)) (small : (q j : ℕ) → L .hand-over
       rg : (1 ≤ 1) × (1 ≤ i) × (i ≤ T .own-level p)
       rg = range-of (phase T s p) (T .own-level p) (inv .range p) (give 1 i t) was
 
-      so : (n ≤ 1000) × Counts L (s .statuses) p 1
+      so : (n ≤ most-hand-overs) × Counts L (s .statuses) p 1
       so = subst (Sound L (s .statuses) p) e (v .sound p)
 
       own : (c : Successor T (view T s) p i t) → Counts L (s .statuses) (c .rank) (suc i)
@@ -455,7 +456,8 @@ module _ (L : Plan) (G : Lawful (L .tree)) (small : (q j : ℕ) → L .hand-over
       all : (c : Successor T (view T s) p i t) → Counts L (upd (s .statuses) (T .node (c .rank) i) n) (c .rank) 1
       all c j a b = by (cases-order j i)
         where
-          by : (j ≡ i) ⊎ ((j < i) ⊎ (i < j)) → upd (s .statuses) (T .node (c .rank) i) n (T .node (c .rank) j) ≤ 1000
+          by : (j ≡ i) ⊎ ((j < i) ⊎ (i < j))
+              → upd (s .statuses) (T .node (c .rank) i) n (T .node (c .rank) j) ≤ most-hand-overs
           by (inl z) = rw (z, upd-same (s .statuses) (T .node (c .rank) i) n) (so .0)
           by (inr (inl z)) = rw (
             status-own (c .rank) i n j (c .on) (omega arith) (omega arith),

@@ -11,6 +11,7 @@ use lib.Dec.{leb}
 use native.Mathlib.Omega.{arith}
 use Rattle.std.proofs.shelf.Tests.{cases-eq, ne-eqb}
 use Rattle.std.proofs.shelf.Ways.{tells}
+use Rattle.places.specs.Words.{most-hand-overs}
 use Rattle.queues.specs.Machine.{Tree, On, Phase, out, fresh, clean, ready, link, wait, hold, give, hold-level}
 use Rattle.queues.specs.Machine.{InRange, Inv}
 use Rattle.queues.specs.Counters.{write-bit, tries, admits, clears, Marks}
@@ -87,7 +88,7 @@ unfolding upd
 falls L s p f c o a = grind (arith, tells)
 
 -- a writer that does not wait is able, or at one of the three odd places
-able-or : (L : Plan) (s : Lock) (p : ℕ) (f : Place) → ((q j : ℕ) → L .hand-over-limit q j ≤ 1000)
+able-or : (L : Plan) (s : Lock) (p : ℕ) (f : Place) → ((q j : ℕ) → L .hand-over-limit q j ≤ most-hand-overs)
     → InRange (L .tree .own-level p) (phase-of f (s .statuses (L .tree .node p (status-level f))))
     → Sound L (s .statuses) p f → Within (L .counters) f
     → NoWait (phase-of f (s .statuses (L .tree .node p (status-level f))))

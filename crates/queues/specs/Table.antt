@@ -6,6 +6,7 @@ use mathlib.Core.Path.{_≡_}
 use mathlib.Core.Logic.{_⊎_}
 use mathlib.Core.Bool.{cond}
 use lib.Dec.{eqb, leb, ltb}
+use Rattle.places.specs.Words.{most-hand-overs}
 use Rattle.queues.specs.Machine.{Tree, On, Phase, out, fresh, clean, ready, link, wait, hold, give, State, Inv}
 use Rattle.queues.specs.Counters.{write-bit}
 pub use Rattle.places.specs.declared.place.Place.{Place}
@@ -188,7 +189,7 @@ module _ (L : Plan) (s : Lock) (p : ℕ) where
   row (W3 i) = go (join s (k i) (x i)) p (cond (eqb (s .tails (k i)) 0) (W6 i) (W4 i (s .tails (k i))))
   row (W4 i t) = go (put-next s t (x i)) p (W5 i)
   row (W5 i) = cond (eqb (s .statuses (x i)) WAIT) s
-      (cond (leb (s .statuses (x i)) 1000) (go s p Writer)
+      (cond (leb (s .statuses (x i)) most-hand-overs) (go s p Writer)
       (cond (eqb (s .statuses (x i)) (told-status i)) (go s p (W6 i)) s))
   row (W6 i) = go (put-status s (x i) 0) p (cond (leb 2 i) (W1 (pred i)) (W7 0))
   row (W7 n) = go (put-arrive s n (s .arrives n + write-bit)) p (next n (W8 0) W7)
@@ -227,7 +228,7 @@ phase-of (W1 i) w = fresh i
 phase-of (W2 i) w = clean i
 phase-of (W3 i) w = ready i
 phase-of (W4 i t) w = link i t
-phase-of (W5 i) w = cond (eqb w WAIT) (wait i) (cond (leb w 1000) (hold 1) (hold i))
+phase-of (W5 i) w = cond (eqb w WAIT) (wait i) (cond (leb w most-hand-overs) (hold 1) (hold i))
 phase-of (W6 i) w = hold i
 phase-of (W7 n) w = hold 1
 phase-of (W8 n) w = hold 1
@@ -301,7 +302,8 @@ view T s =
 
 -- the rank's own statuses from a level down are counts
 abbrev pub Counts : Plan → (ℕ → ℕ) → ℕ → ℕ → Type 0
-Counts L statuses p from = (j : ℕ) → from ≤ j → j ≤ L .tree .own-level p → statuses (L .tree .node p j) ≤ 1000
+Counts L statuses p from =
+    (j : ℕ) → from ≤ j → j ≤ L .tree .own-level p → statuses (L .tree .node p j) ≤ most-hand-overs
 
 -- what is true of the STATUS words of a rank at its place, and of its fields: below the level where it waits, and
 -- everywhere once it holds the whole machine, they are counts; while it waits its STATUS is WAIT; at W5 it may have
@@ -321,7 +323,7 @@ Sound L statuses p (W8 n) = Counts L statuses p 1
 Sound L statuses p (W9 n a) = Counts L statuses p 1
 Sound L statuses p (U1 i) = (2 ≤ i) × (i ≤ L .tree .own-level p) × Counts L statuses p 1
 Sound L statuses p (U2 i n) = (2 ≤ i) × (i ≤ L .tree .own-level p) × Counts L statuses p 1
-Sound L statuses p (U3 i t n) = (n ≤ 1000) × Counts L statuses p 1
+Sound L statuses p (U3 i t n) = (n ≤ most-hand-overs) × Counts L statuses p 1
 Sound L statuses p U4 = Counts L statuses p 1
 Sound L statuses p (U5 n) = Counts L statuses p 1
 Sound L statuses p (U6 n) = Counts L statuses p 1
