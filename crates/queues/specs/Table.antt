@@ -1,12 +1,13 @@
 -- The table of places as a function on the abstract machine: each row changes one word and the place of one rank, and
 -- the rows of a queue drive its history: W3 adds a turn, U3, U9 and a U10 that succeeds let the head go.
 -- Below it, how a place is seen by the queues, and the first part of the invariant.
-use Prim.Native.Nat.{ℕ, suc, pred, _+_, _-_, _^_, _≤_}
+use Prim.Native.Nat.{ℕ, suc, pred, _+_, _-_, _≤_}
 use mathlib.Core.Path.{_≡_}
 use mathlib.Core.Logic.{_⊎_}
 use mathlib.Core.Bool.{cond}
 use lib.Dec.{eqb, leb, ltb}
-use Rattle.places.specs.Words.{most-hand-overs}
+use Rattle.places.specs.Words.{most-hand-overs, mode-change, to-parent}
+pub use Rattle.places.specs.Words.{wait as WAIT}
 use Rattle.queues.specs.Machine.{Tree, On, Phase, out, fresh, clean, ready, link, wait, hold, give, State, Inv}
 use Rattle.queues.specs.Counters.{write-bit}
 pub use Rattle.places.specs.declared.place.Place.{Place}
@@ -14,13 +15,9 @@ pub use Rattle.places.specs.declared.place.Place.the-variants.{Idle, W1, W2, W3
 pub use Rattle.places.specs.declared.place.Place.the-variants.{U2, U3, U4, U5, U6, U7, U8, U9, U10, R1, R2, R3, R4}
 pub use Rattle.places.specs.declared.place.Place.the-variants.{R5, R6, R7, Writer, Reader}
 
--- the STATUS of a node that waits
-abbrev pub WAIT : ℕ
-WAIT = 2 ^ 32
-
 -- the STATUS by which a holder of level i lets the next one on: take the parent too; at level 1, see to the counters
 abbrev pub told-status : ℕ → ℕ
-told-status i = cond (eqb i 1) (2 ^ 32 + 2) (2 ^ 32 + 1)
+told-status i = cond (eqb i 1) mode-change to-parent
 
 -- a plan: its tree, the number of counters, how many readers a counter admits, how often a level is handed on by the
 -- ranks below one element, and the counter of each rank
