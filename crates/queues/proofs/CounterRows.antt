@@ -9,8 +9,8 @@ use mathlib.Core.Bool.{Bool, true, false, cond}
 use lib.Dec.{eqb, leb, ltb}
 use native.Mathlib.Omega.{arith}
 use Rattle.std.proofs.shelf.Ways.{tells}
-use Rattle.std.proofs.shelf.Tests.{cases-eq, cases-lt, cond-both, eq-eqb, ne-eqb, le-leb, lt-leb, eqb-true, leb-false}
-use Rattle.std.proofs.shelf.Tests.{ltb-true, ltb-false}
+use Rattle.std.proofs.shelf.Tests.{cases-eq, cond-both, eq-eqb, ne-eqb, le-leb, lt-leb, eqb-true, leb-false, ltb-true}
+use Rattle.std.proofs.shelf.Tests.{ltb-false}
 use Rattle.places.specs.Words.{most-hand-overs}
 use Rattle.queues.specs.Machine.{holds-from, Tree, Lawful, On, wait, hold, give, hold-level, InRange, Waits, Inv}
 use Rattle.queues.specs.Table.{Place, Idle, W1, W2, W3, W4, W5, W6, W7, W8, W9, U1, U2, U3, U4, U5, U6, U7, U8, U9}
@@ -422,19 +422,11 @@ module _ (P : ℕ) (L : Plan) (sensible : Sensible P L) (s : Lock) (bit : ℕ �
       → ((c : ℕ) → c < C → Keeps h c → (q : ℕ) → On P q → load q ≢ inside c)
       → ((j n : ℕ) → h ≡ reading j n → write-bit + s .departs j + total P (λ q. admits (load q) j) ≤ n)
       → Right (go s p g) bit
-  turn p f g on o e lv lf lg h gh mk sd kp ss =
-      let same : (q : ℕ) → load′ p g q ≡ load q =
-      split p
-      (λ q. load′ p g q ≡ load q)
-      (load-now p g ∙ (lg ∙ sym (ap (load-of (L .home p)) e ∙ lf)))
-      (load-other p g) in
-      ⊎-elim
-      (λ (z : 0 < C).
-      flip p 0 f g (s .arrives) bit on o e lv
+  turn p f g on o e lv lf lg h gh mk sd kp ss = flip p 0 f g (s .arrives) bit on o e lv
       (λ d ne. rw (lf, lg) (refl, refl, refl))
       (λ d ne. refl)
       (λ d ne. refl)
-      (v .counted .each 0 z .bits)
+      (v .counted .each 0 (omega (arith, homes p)) .bits)
       (rw (lf, lg))
       (rw (lf, lg) (omega arith))
       h
@@ -442,16 +434,16 @@ module _ (P : ℕ) (L : Plan) (sensible : Sensible P L) (s : Lock) (bit : ℕ �
       (λ c l w. v .counted .marked p c l (mk c l w))
       (λ c l w. sd c l (own-marks p o lv c l w))
       (λ c l w. not-inside p g c lg (kp c l w))
-      (λ j n w.
-      let t : total P (λ q. admits (load′ p g q) j)
-      ≡ total P (λ q. admits (load q) j) =
-      total-same P
-      (λ q. admits (load q) j)
-      (λ q. admits (load′ p g q) j)
-      (λ q _ _. ap (λ l. admits l j) (same q)) in
-      omega (arith, ss j n w)))
-      (λ (z : C ≤ 0). absurd (omega (arith, homes p)))
-      (cases-lt 0 C)
+      (λ j n w. omega (arith, ss j n w, admitted j))
+    where
+      -- the rank has no load before or after, so no load changes
+      same : (q : ℕ) → load′ p g q ≡ load q
+      same = split p (λ q. load′ p g q ≡ load q) (load-now p g ∙ (lg ∙ sym (ap (load-of (L .home p)) e ∙ lf)))
+          (load-other p g)
+
+      admitted : (j : ℕ) → total P (λ q. admits (load′ p g q) j) ≡ total P (λ q. admits (load q) j)
+      admitted j = total-same P (λ q. admits (load q) j) (λ q. admits (load′ p g q) j)
+          (λ q _ _. ap (λ l. admits l j) (same q))
 
   -- the writer holds the whole machine
   level-1 : (p : ℕ) (f : Place) → s .place p ≡ f → ((w : ℕ) → phase-of f w ≡ hold 1) → holds-from T (view T s) p ≤ 1
