@@ -13,7 +13,7 @@ use Rattle.queues.specs.Table.{Place, Idle, W1, W2, W3, W4, W5, W6, W7, W8, W9
 use Rattle.queues.specs.Table.{U10, R1, R2, R3, R4, R5, R6, R7, Writer, Reader, told-status, Plan, Lock}
 use Rattle.queues.specs.Counters.{write-bit, total, tries, admits, clears, Tally, Counted}
 use Rattle.queues.proofs.OneHolder.{asked, waits-cases, turn-is}
-use Rattle.queues.proofs.Sums.{total-same, total-zero, total-swap}
+use Rattle.queues.proofs.Sums.{total-none, total-swap}
 
 -- a phase waits for a STATUS, or does not
 pub waits-or : (f : Phase) → ((i : ℕ) × (f ≡ wait i)) ⊎ ((i : ℕ) → f ≢ wait i)
@@ -158,15 +158,9 @@ pub passes : (P C limit : ℕ) (s : Tally) → Counted P C limit s → (k : ℕ)
     → ((q : ℕ) → On P q → (tries (s .load q) k ≡ 0) × (admits (s .load q) k ≡ 0) × (clears (s .load q) k ≡ 0))
     → s .arrives k ≡ write-bit + s .departs k
 passes P C limit s v k l b h =
-    let x : total P (λ q. tries (s .load q) k) ≡ 0 =
-    total-same P (λ q. 0) (λ q. tries (s .load q) k) (λ q a b. h q (record { from = a; upto = b }) .0)
-    ∙ total-zero P in
-    let y : total P (λ q. admits (s .load q) k) ≡ 0 =
-    total-same P (λ q. 0) (λ q. admits (s .load q) k) (λ q a b. h q (record { from = a; upto = b }) .1)
-    ∙ total-zero P in
-    let z : total P (λ q. clears (s .load q) k) ≡ 0 =
-    total-same P (λ q. 0) (λ q. clears (s .load q) k) (λ q a b. h q (record { from = a; upto = b }) .2)
-    ∙ total-zero P in
+    let x = total-none P (λ q. tries (s .load q) k) (λ q o. h q o .0) in
+    let y = total-none P (λ q. admits (s .load q) k) (λ q o. h q o .1) in
+    let z = total-none P (λ q. clears (s .load q) k) (λ q o. h q o .2) in
     omega (arith, v .each k l .sum)
 
 -- the sum of the numbers falls where one rank's falls

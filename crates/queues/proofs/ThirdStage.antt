@@ -11,12 +11,12 @@ use native.Mathlib.Omega.{arith}
 use Rattle.std.proofs.shelf.Tests.{cases-lt, eq-eqb, lt-ltb, le-ltb, lt-leb}
 use Rattle.std.proofs.shelf.Ways.{tells}
 use Rattle.queues.specs.Machine.{holds-from, Tree, On, hold-level, Inv}
-use Rattle.queues.specs.Counters.{write-bit, total, tries, admits, clears, Marks, shut, none}
+use Rattle.queues.specs.Counters.{Load, write-bit, total, tries, admits, clears, Marks, shut, none}
 use Rattle.queues.specs.Table.{Place, Idle, R1, R3, R4, R5, R6, R7, Reader, Plan, Lock, status-level, view, go}
 use Rattle.queues.specs.Table.{put-arrive, put-depart, row}
 use Rattle.queues.specs.Invariant.{load-of, gate, Within}
 use Rattle.queues.specs.Moves.{tag, AtRest, Apt, WayBack}
-use Rattle.queues.proofs.Sums.{total-same, total-zero}
+use Rattle.queues.proofs.Sums.{total-none}
 use Rattle.queues.proofs.Cases.{split}
 use Rattle.queues.proofs.Phases.{upd-same, upd-other}
 use Rattle.queues.proofs.QueueRows.{phase-at}
@@ -101,27 +101,18 @@ module _ (P : ℕ) (L : Plan) (g : Apt P L) where
           absurd (omega (arith, h .holds, h .on, still-phase s v (h .rank) (omega (arith, h .on))))
       nobody k (inr z) = omega (arith, inv .order k)
 
+      weightless : (w : Load → ℕ → ℕ) (c : ℕ) → w none c ≡ 0
+          → total P (λ q. w (load-of (L .home q) (s .place q)) c) ≡ 0
+      weightless w c e = total-none P (λ q. w (load-of (L .home q) (s .place q)) c)
+          (λ q on. ap (λ l. w l c) (still-none (L .home q) (s .place q) (v .1 q on)) ∙ e)
+
       -- nobody has a load or stands for a bit
       sums : (c : ℕ) → c < L .counters → (s .arrives c ≡ s .departs c) × (s .departs c ≤ L .reader-threshold)
       sums c l =
           let o = v .0 .safe .counted .each c l in
-          let n : (q : ℕ) → On P q → load-of (L .home q) (s .place q) ≡ none =
-          λ q on. still-none (L .home q) (s .place q) (v .1 q on) in
-          let x : total P (λ q. tries (load-of (L .home q) (s .place q)) c) ≡ 0 =
-          total-same P
-          (λ q. 0)
-          (λ q. tries (load-of (L .home q) (s .place q)) c)
-          (λ q a b. ap (λ y. tries y c) (n q (record { from = a; upto = b }))) ∙ total-zero P in
-          let y : total P (λ q. admits (load-of (L .home q) (s .place q)) c) ≡ 0 =
-          total-same P
-          (λ q. 0)
-          (λ q. admits (load-of (L .home q) (s .place q)) c)
-          (λ q a b. ap (λ y. admits y c) (n q (record { from = a; upto = b }))) ∙ total-zero P in
-          let z : total P (λ q. clears (load-of (L .home q) (s .place q)) c) ≡ 0 =
-          total-same P
-          (λ q. 0)
-          (λ q. clears (load-of (L .home q) (s .place q)) c)
-          (λ q a b. ap (λ y. clears y c) (n q (record { from = a; upto = b }))) ∙ total-zero P in
+          let x = weightless tries c refl in
+          let y = weightless admits c refl in
+          let z = weightless clears c refl in
           let b : v .0 .bit c ≢ 1 = λ w. still-gate s v (o .stands w .0) c (o .stands w .1) in
           (omega (arith, o .sum, o .bits), omega (arith, o .small))
 
