@@ -2,7 +2,7 @@
 -- counters are, and a home that was read from a word is the node of a rank; and the home that a step reaches is one
 -- of the lock's.
 use Prim.Native.Nat.{ℕ, _≤_}
-use mathlib.Core.Path.{_≡_, sym, _∙_, subst}
+use mathlib.Core.Path.{_≡_, sym, subst}
 use mathlib.Core.Bool.{true}
 use lib.Dec.{leb}
 use native.Mathlib.Omega.{arith}
@@ -15,13 +15,14 @@ use Rattle.plan.specs.Trees.{Tree, counters, homes, node-home, own-counter, own
 use Rattle.places.specs.declared.access.Access.{Access}
 use Rattle.places.specs.Records.{fits}
 use Rattle.places.specs.Table.{access-of}
+use Rattle.queues.specs.Moves.{Node}
+use Rattle.queues.proofs.FirstStage.{give-aims, link-aims}
 use Rattle.queues.specs.Machine.{Tree as Machine-tree, On, InRange, Inv, link, give}
 use Rattle.queues.specs.Table.{Place, Idle, W1, W2, W3, W4, W5, W6, W7, W8, W9, U1, U2, U3, U4, U5, U6, U7, U8, U9}
 use Rattle.queues.specs.Table.{U10, R1, R2, R3, R4, R5, R6, R7, Writer, Reader, Plan, Lock, view, phase, phase-of}
 use Rattle.queues.specs.Table.{status-level, Sound}
 use Rattle.queues.specs.Invariant.{Safe, Within}
 use Rattle.law.proofs.Bridge.{machine-plan, Geometry, Ranged}
-use Rattle.queues.proofs.OneHolder.{asked, occupant, successor}
 use Rattle.queues.proofs.QueueRows.{phase-at}
 
 -- a number in range passes the test
@@ -48,23 +49,16 @@ module _ (t : Tree) (G : Geometry t) (s : Lock) (bit : ℕ → ℕ) (v : Safe (t
   inv = v .fine .queues
 
   -- a node is a home of the lock
-  node-any : (r i : ℕ) → On (T .own-level r) i → On (homes t) (node-home t r i)
-  node-any r i o = G .node-in r i o
+  node-any : (y : ℕ) → Node T y → On (homes t) y
+  node-any y n = subst (On (homes t)) (sym (n .is)) (G .node-in (n .rank) (n .level) (n .on))
 
   -- what a rank is about to hand over to is a home
   next-home : (p h i y : ℕ) → phase T s p ≡ give h i y → On (homes t) y
-  next-home p h i y e =
-      let z = successor T (G .apt .sensible .tree) (view T s) inv p h i y e in
-      subst (On (homes t)) (sym (z .target)) (node-any (z .rank) i (z .on))
+  next-home p h i y e = node-any y (give-aims T (G .apt .sensible .tree) (view T s) inv p h i y e)
 
   -- what a rank is about to link itself to is a home
   link-home : (p i y : ℕ) → phase T s p ≡ link i y → On (homes t) y
-  link-home p i y e =
-      let z = asked T (view T s) inv p (link i y) e in
-      let o =
-      occupant T (G .apt .sensible .tree) (view T s) inv (T .element p i) (z .spot .turn) (z .spot .low)
-      (omega (arith, z .spot .high)) in
-      subst (On (homes t)) (sym (z .target ∙ o .is)) (node-any (o .rank) (o .level) (o .on))
+  link-home p i y e = node-any y (link-aims T (G .apt .sensible .tree) (view T s) inv p i y e)
 
   -- the fields of a rank at its place are in range
   pub ranged : (p : ℕ) → On (t .shape .ranks) p → (f : Place) → s .place p ≡ f → Ranged t p f

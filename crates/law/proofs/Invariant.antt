@@ -5,7 +5,7 @@
 -- So at the end of every job exclusion and order hold, and no call was refused but by the caller's own doing.
 use Prim.Native.Nat.{ℕ}
 use mathlib.Core.Path.{_≡_, refl, sym, _∙_, ap, subst}
-use mathlib.Core.Logic.{_≢_, ⊎-elim}
+use mathlib.Core.Logic.{_⊎_, inl, inr, _≢_, ⊎-elim}
 use mathlib.Core.Bool.{Bool, true, false, cond, _&&_}
 use mathlib.Core.List.{List, [], _∷_}
 use lib.Dec.{eqb, leb}
@@ -304,12 +304,12 @@ module _ (t : Tree) (G : Geometry t) (ws : Words) (rs : List Record) (w : Presen
   asks c p f d ok = subst (Some-kept t ws rs w h c) (sym d) (by (within 1 P p) refl)
     where
       by : (b : Bool) → within 1 P p ≡ b → Some-kept t ws rs w h c (with-words ws (asked t rs p f))
-      by false e =
-          stays c (with-words ws (asked t rs p f)) UnknownRank refl
+      by false e = stays c (with-words ws (asked t rs p f)) UnknownRank refl
           (ap (with-words ws) (no-turn p e (λ q. asked-at rs p f (standing-at q))))
-      by true e =
-          subst (λ x. Some-kept t ws rs w h c (with-words ws x))
-          (sym (turn-is p (on-of p e) (λ q. asked-at rs p f (standing-at q)))) (at (standing-at (s .place p)) refl)
+      by true e = subst
+          (λ x. Some-kept t ws rs w h c (with-words ws x))
+          (sym (turn-is p (on-of p e) (λ q. asked-at rs p f (standing-at q))))
+          (at (standing-at (s .place p)) refl)
         where
           at : (d : Standing) → standing-at (s .place p) ≡ d
               → Some-kept t ws rs w h c (with-words ws (asked-at rs p f d))
@@ -408,11 +408,11 @@ module _ (t : Tree) (G : Geometry t) (ws : Words) (rs : List Record) (w : Presen
   kept-leave p = by (within 1 P p) refl
     where
       by : (b : Bool) → within 1 P p ≡ b → Some-kept t ws rs w h (Leave p) (with-words ws (left t rs p))
-      by false e =
-          stays (Leave p) (with-words ws (left t rs p)) UnknownRank refl
+      by false e = stays (Leave p) (with-words ws (left t rs p)) UnknownRank refl
           (ap (with-words ws) (no-turn p e (λ q. left-at t rs p (standing-at q))))
-      by true e =
-          subst (λ x. Some-kept t ws rs w h (Leave p) (with-words ws x)) (sym (left-is p (on-of p e)))
+      by true e = subst
+          (λ x. Some-kept t ws rs w h (Leave p) (with-words ws x))
+          (sym (left-is p (on-of p e)))
           (at (standing-at (s .place p)) refl)
         where
           at : (d : Standing) → standing-at (s .place p) ≡ d
@@ -447,19 +447,23 @@ module _ (t : Tree) (G : Geometry t) (ws : Words) (rs : List Record) (w : Presen
 
   -- a writer that is inside is alone
   pub alone : Alone w
-  alone p q a b d =
-      let onp = one-of p (k .ranked p a) in
-      let onq = one-of q (k .ranked q d) in
-      let at-p = at-writes (s .place p) (w .role p) (w .inside p) (k .link p) a b in
-      ⊎-elim
-      (λ (z : s .place q ≡ Writer).
-      one-writer L (G .apt .sensible .tree) (G .apt .sensible .small) s (k .safe .fine) p q onp onq
-      (G .apt .sensible .root p q onp onq) at-p z)
-      (λ (z : s .place q ≡ Reader).
-      absurd
-      (no-reader P L (G .apt .sensible) s bit (k .safe)
-      p q onq at-p z))
-      (at-inside (s .place q) (w .role q) (w .inside q) (k .link q) d)
+  alone p q a b d = by (at-inside (s .place q) (w .role q) (w .inside q) (k .link q) d)
+    where
+      g : Sensible P L
+      g = G .apt .sensible
+
+      on-p : On (L .tree .own-level p) 1
+      on-p = one-of p (k .ranked p a)
+
+      on-q : On (L .tree .own-level q) 1
+      on-q = one-of q (k .ranked q d)
+
+      at-p : s .place p ≡ Writer
+      at-p = at-writes (s .place p) (w .role p) (w .inside p) (k .link p) a b
+
+      by : (s .place q ≡ Writer) ⊎ (s .place q ≡ Reader) → p ≡ q
+      by (inl z) = one-writer L (g .tree) (g .small) s (k .safe .fine) p q on-p on-q (g .root p q on-p on-q) at-p z
+      by (inr z) = absurd (no-reader P L g s bit (k .safe) p q on-q at-p z)
 
 -- some lock holds
 abbrev pub Some-holds : Tree → Words → List Record → Presence → History → Type 0

@@ -1,12 +1,12 @@
 -- No counter word wraps: ARRIVE is at most the write bit, the reader threshold and the number of ranks together, and
 -- what a row takes out of it stands in it.
-use Prim.Native.Nat.{ℕ, zero, suc, _+_, _^_, _≤_, _<_}
+use Prim.Native.Nat.{ℕ, zero, suc, _+_, _≤_, _<_}
 use mathlib.Core.Path.{_≡_}
 use native.Mathlib.Omega.{arith}
 use Rattle.std.proofs.shelf.Ways.{tells}
 use Rattle.plan.specs.Trees.{Tree, counters}
 use Rattle.queues.specs.Machine.{On}
-use Rattle.queues.specs.Counters.{total, pick, Load, tries, admits, clears, Count}
+use Rattle.queues.specs.Counters.{write-bit, total, pick, Load, tries, admits, clears, Count}
 use Rattle.queues.specs.Table.{U7, R2, R6, Lock}
 use Rattle.queues.specs.Invariant.{Safe, load-of, tally}
 use Rattle.law.proofs.Bridge.{machine-plan, Geometry}
@@ -33,13 +33,14 @@ module _ (t : Tree) (G : Geometry t) (s : Lock) (bit : ℕ → ℕ) (v : Safe (t
   loads q = load-of (machine-plan t .home q) (s .place q)
 
   -- the bounds of ARRIVE and DEPART
-  pub small : (c : ℕ) → c < counters t → (s .arrives c ≤ 2 ^ 62 + 1001024) × (s .departs c ≤ 1000000)
+  pub small : (c : ℕ) → c < counters t → (s .arrives c ≤ write-bit + 1001024) × (s .departs c ≤ 1000000)
   small c l =
       let w : Count P (t .shape .«reader_threshold») (tally (machine-plan t) s bit) c = v .counted .each c l in
       let t = total-le P (λ q. tries (loads q) c) (λ q. tries-one (loads q) c) in omega (arith, G .few, G .limit)
 
   -- what U7 takes out stands in ARRIVE
-  pub at-U7 : (p k n : ℕ) → On P p → k < counters t → s .place p ≡ U7 k n → (2 ^ 62 + n ≤ s .arrives k) × (n ≤ 1000000)
+  pub at-U7 : (p k n : ℕ) → On P p → k < counters t → s .place p ≡ U7 k n
+      → (write-bit + n ≤ s .arrives k) × (n ≤ 1000000)
   at-U7 p k n on l e =
       let w : Count P (t .shape .«reader_threshold») (tally (machine-plan t) s bit) k = v .counted .each k l in
       let b : bit k ≡ 1 =

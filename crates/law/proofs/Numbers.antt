@@ -1,4 +1,5 @@
--- What a lawful plan says of the numbers of its tree and of its counters.
+-- What a lawful plan says of the numbers of its tree and of its counters: levels, elements, nodes and counters are in
+-- range. These records are shown from the plan's tests and put together as its geometry.
 use Prim.Native.Nat.{ℕ, suc, _+_, _≤_, _<_}
 use mathlib.Core.Path.{_≡_}
 use Rattle.queues.specs.Machine.{On, Tree}

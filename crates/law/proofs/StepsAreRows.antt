@@ -305,7 +305,7 @@ module _ (t : Tree) (G : Geometry t) (ws : Words) (rs : List Record) (s : Lock) 
     lifted (W7 k) e =
         let l = rg (W7 k) e in
         inl
-        (adds-arrive (W7 k) k write-bit (s .arrives k + 2 ^ 62) l refl (omega (arith, small t G s bit v k l)) _
+        (adds-arrive (W7 k) k write-bit (s .arrives k + write-bit) l refl (omega (arith, small t G s bit v k l)) _
         (goes-next (counters t) k W7 _ _ (Moved, refl)))
     lifted (W8 k) e =
         let l = rg (W8 k) e in
@@ -316,7 +316,7 @@ module _ (t : Tree) (G : Geometry t) (ws : Words) (rs : List Record) (s : Lock) 
         let l = rg (W9 k n) e in
         inl
         (carried (W9 k n) (counter-home t k) 4 Get refl (re (W9 k n) e) refl (s .departs k) (h .departs k l) _
-        (both′ _ (eqb n (2 ^ 62 + s .departs k)) _ _ _ _ (ap (eqb n) (omega (arith, small t G s bit v k l)))
+        (both′ _ (eqb n (write-bit + s .departs k)) _ _ _ _ (ap (eqb n) (omega (arith, small t G s bit v k l)))
         (goes-next (counters t) k W8 _ _ (Entered, refl)) (Waiting, refl))
         s refl h)
     lifted (U1 i) e = inl (reads-status (U1 i) i refl (re (U1 i) e) _ (Moved, refl))
@@ -344,7 +344,7 @@ module _ (t : Tree) (G : Geometry t) (ws : Words) (rs : List Record) (s : Lock) 
     lifted (U7 k n) e =
         let l = rg (U7 k n) e in
         inl
-        (adds-arrive (U7 k n) k (minus ((write-bit + n) % 2 ^ 64)) (s .arrives k - (2 ^ 62 + n)) l refl
+        (adds-arrive (U7 k n) k (minus ((write-bit + n) % 2 ^ 64)) (s .arrives k - (write-bit + n)) l refl
         (omega (arith, small t G s bit v k l, at-U7 t G s bit v p k n on l e)) _
         (goes-next (counters t) k U6 _ _ (Moved, refl)))
     lifted (U8 i) e = inl

@@ -2,19 +2,21 @@
 -- holds element 1, which has one holder: so one rank at most stands for write bits. Rows of readers drain or enter;
 -- rows of that writer set, read or clear; a hand-over of the section passes all bits on; and all others leave loads
 -- and gates alone.
-use Prim.Native.Nat.{ℕ, suc, pred, _+_, _-_, _*_, _^_, _≤_, _<_}
+use Prim.Native.Nat.{ℕ, suc, pred, _+_, _-_, _*_, _≤_, _<_}
 use mathlib.Core.Path.{_≡_, refl, sym, _∙_, ap, subst}
 use mathlib.Core.Logic.{_⊎_, _≢_, ⊎-elim}
 use mathlib.Core.Bool.{Bool, true, false, cond}
 use lib.Dec.{eqb, leb, ltb}
 use native.Mathlib.Omega.{arith}
 use Rattle.std.proofs.shelf.Ways.{tells}
-use Rattle.std.proofs.shelf.Tests.{cases-eq, cases-lt, cond-both, eq-eqb, ne-eqb, le-leb, lt-leb, eqb-true, leb-false}
-use Rattle.std.proofs.shelf.Tests.{ltb-true, ltb-false}
-use Rattle.queues.specs.Machine.{Tree, Lawful, On, wait, hold, give, hold-level, InRange, Waits, Inv}
+use Rattle.std.proofs.shelf.Tests.{cases-eq, cond-both, eq-eqb, ne-eqb, le-leb, lt-leb, eqb-true, leb-false, ltb-true}
+use Rattle.std.proofs.shelf.Tests.{ltb-false}
+use Rattle.places.specs.Words.{most-hand-overs}
+use Rattle.queues.specs.Machine.{holds-from, Tree, Lawful, On, wait, hold, give, hold-level, InRange, Waits, Inv}
 use Rattle.queues.specs.Table.{Place, Idle, W1, W2, W3, W4, W5, W6, W7, W8, W9, U1, U2, U3, U4, U5, U6, U7, U8, U9}
-use Rattle.queues.specs.Table.{U10, R1, R2, R3, R4, R5, R6, R7, Writer, Reader, WAIT, told-status, Plan, Lock, upd}
-use Rattle.queues.specs.Table.{phase-of, status-level, phase, view, Sound, go, put-status, free, done, next, row}
+use Rattle.queues.specs.Table.{with-counts, with-statuses, put-arrive, U10, R1, R2, R3, R4, R5, R6, R7, Writer}
+use Rattle.queues.specs.Table.{Reader, WAIT, told-status, Plan, Lock, upd, phase-of, status-level, phase, view, Sound}
+use Rattle.queues.specs.Table.{go, put-status, free, done, next, row}
 use Rattle.queues.specs.Counters.{total, pick, Load, none, trying, inside, carrying, clearing, tries, admits, clears}
 use Rattle.queues.specs.Counters.{Gate, shut, raising, checking, reading, wide, lowering, Marks, Keeps, Tally}
 use Rattle.queues.specs.Counters.{write-bit, Counted}
@@ -71,7 +73,7 @@ module _ (P : ℕ) (L : Plan) (sensible : Sensible P L) (s : Lock) (bit : ℕ �
   abbrev G : Lawful (L .tree)
   G = sensible .tree
 
-  abbrev small : (q j : ℕ) → L .hand-over-limit q j ≤ 1000
+  abbrev small : (q j : ℕ) → L .hand-over-limit q j ≤ most-hand-overs
   small = sensible .small
 
   abbrev ranks : (p : ℕ) → On (L .tree .own-level p) 1 → On P p
@@ -93,18 +95,21 @@ module _ (P : ℕ) (L : Plan) (sensible : Sensible P L) (s : Lock) (bit : ℕ �
   abbrev inv : Inv T (view T s)
   inv = v .fine .queues
 
+  -- the counters of a lock are right
+  abbrev Right : Lock → (ℕ → ℕ) → Type 0
+  Right s bit = Counted P C (L .reader-threshold) (tally L s bit)
+
   -- while p holds the whole machine, all other gates are shut
-  alone : (p : ℕ) → On (T .own-level p) 1 → hold-level (T .own-level p) (phase T s p) ≤ 1 → (q : ℕ) → q ≢ p
-      → gate T s q ≡ shut
+  alone : (p : ℕ) → On (T .own-level p) 1 → holds-from T (view T s) p ≤ 1 → (q : ℕ) → q ≢ p → gate T s q ≡ shut
   alone p o l q a = ⊎-elim
       (λ (z : gate T s q ≡ shut). z)
-      (λ (z : (hold-level (T .own-level q) (phase T s q) ≡ 1) × On (T .own-level q) 1).
+      (λ (z : (holds-from T (view T s) q ≡ 1) × On (T .own-level q) 1).
       absurd (a (one-holder T G (view T s) inv q p 1 (z .1) o (omega arith) l (root q p (z .1) o))))
       (gate-phase (T .own-level q) (s .place q) (s .statuses (T .node q (status-level (s .place q)))) (inv .range q))
 
   -- nor by a STATUS written at a node that is not its own
-  gate-status : (o i u : ℕ) → On (T .own-level o) i → hold-level (T .own-level o) (phase T s o) ≤ suc i → (q : ℕ)
-      → q ≢ o → gate T (put-status s (T .node o i) u) q ≡ gate T s q
+  gate-status : (o i u : ℕ) → On (T .own-level o) i → holds-from T (view T s) o ≤ suc i → (q : ℕ) → q ≢ o
+      → gate T (put-status s (T .node o i) u) q ≡ gate T s q
   gate-status o i u on l q a = gate-same (s .place q) (s .statuses (T .node q (status-level (s .place q))))
       (upd (s .statuses) (T .node o i) u (T .node q (status-level (s .place q))))
       (λ j e.
@@ -118,40 +123,17 @@ module _ (P : ℕ) (L : Plan) (sensible : Sensible P L) (s : Lock) (bit : ℕ �
   still : (statuses : ℕ → ℕ) (p : ℕ) (g : Place) → gate-of g (statuses (T .node p (status-level g))) ≡ gate T s p
       → load-of (L .home p) g ≡ load-of (L .home p) (s .place p)
       → ((q : ℕ) → q ≢ p → gate-of (s .place q) (statuses (T .node q (status-level (s .place q)))) ≡ gate T s q)
-      → Counted P C (L .reader-threshold)
-      (tally L
-      (record {
-        place = upd (s .place) p g;
-        nexts = s .nexts;
-        statuses = statuses;
-        tails = s .tails;
-        arrives = s .arrives;
-        departs = s .departs;
-        node-at = s .node-at;
-        head-turn = s .head-turn;
-        next-turn = s .next-turn;
-      })
-      bit)
+      → Right (go (with-statuses s statuses) p g) bit
   still statuses p g x y z = tallied P C (L .reader-threshold) (tally L s bit)
-      (tally L
-      (record {
-        place = upd (s .place) p g;
-        nexts = s .nexts;
-        statuses = statuses;
-        tails = s .tails;
-        arrives = s .arrives;
-        departs = s .departs;
-        node-at = s .node-at;
-        head-turn = s .head-turn;
-        next-turn = s .next-turn;
-      })
-      bit)
+      (tally L (go (with-statuses s statuses) p g) bit)
       (split p
       (λ q. load-of (L .home q) (s .place q) ≡ load-of (L .home q) (upd (s .place) p g q))
       (rw (upd-same (s .place) p g) (sym y))
       (λ q a. rw (upd-other (s .place) p g q a)))
       (split p
-      (λ q. gate T s q ≡ gate-of (upd (s .place) p g q) (statuses (T .node q (status-level (upd (s .place) p g q)))))
+      (λ q.
+      gate T s q
+      ≡ gate-of (upd (s .place) p g q) (statuses (T .node q (status-level (upd (s .place) p g q)))))
       (rw (upd-same (s .place) p g) (sym x))
       (λ q a. rw (upd-other (s .place) p g q a) (sym (z q a))))
       (λ c. refl)
@@ -201,36 +183,10 @@ module _ (P : ℕ) (L : Plan) (sensible : Sensible P L) (s : Lock) (bit : ℕ �
         arrives = arrives;
         departs = departs;
         bit = bit;
-      })
-      → Counted P C (L .reader-threshold)
-      (tally L
-      (record {
-        place = upd (s .place) p g;
-        nexts = s .nexts;
-        statuses = s .statuses;
-        tails = s .tails;
-        arrives = arrives;
-        departs = departs;
-        node-at = s .node-at;
-        head-turn = s .head-turn;
-        next-turn = s .next-turn;
-      })
-      bit)
+      }) → Right (go (with-counts s arrives departs) p g) bit
   after p g arrives departs x w = tallied P C (L .reader-threshold)
       (record { load = load′ p g; gate = gate T s; arrives = arrives; departs = departs; bit = bit })
-      (tally L
-      (record {
-        place = upd (s .place) p g;
-        nexts = s .nexts;
-        statuses = s .statuses;
-        tails = s .tails;
-        arrives = arrives;
-        departs = departs;
-        node-at = s .node-at;
-        head-turn = s .head-turn;
-        next-turn = s .next-turn;
-      })
-      bit)
+      (tally L (go (with-counts s arrives departs) p g) bit)
       (λ q. refl)
       (split p
       (λ q.
@@ -255,21 +211,7 @@ module _ (P : ℕ) (L : Plan) (sensible : Sensible P L) (s : Lock) (bit : ℕ �
       → departs c + admits (load-of (L .home p) g) c + clears (load-of (L .home p) g) c
       ≤ s .departs c + admits (load-of (L .home p) f) c + clears (load-of (L .home p) f) c
       → departs c + admits (load-of (L .home p) g) c ≤ s .departs c + admits (load-of (L .home p) f) c
-      → ((d : ℕ) → load-of (L .home p) g ≢ inside d)
-      → Counted P C (L .reader-threshold)
-      (tally L
-      (record {
-        place = upd (s .place) p g;
-        nexts = s .nexts;
-        statuses = s .statuses;
-        tails = s .tails;
-        arrives = arrives;
-        departs = departs;
-        node-at = s .node-at;
-        head-turn = s .head-turn;
-        next-turn = s .next-turn;
-      })
-      bit)
+      → ((d : ℕ) → load-of (L .home p) g ≢ inside d) → Right (go (with-counts s arrives departs) p g) bit
   drain p c f g arrives departs on e gt lc x y fl fa fr ou = after p g arrives departs gt
       (drained P C (L .reader-threshold) (tally L s bit) (v .counted) p c on (load′ p g) arrives departs (record {
         shift = shift p c f g arrives departs e lc x y;
@@ -284,7 +226,7 @@ module _ (P : ℕ) (L : Plan) (sensible : Sensible P L) (s : Lock) (bit : ℕ �
   none-inside d e = let z : _≡_ {A = ℕ} 0 1 = cc in omega arith
 
   -- R2 takes itself out again
-  count-R2 : (p : ℕ) → On P p → s .place p ≡ R2 → Counted P C (L .reader-threshold) (tally L (row L s p R2) bit)
+  count-R2 : (p : ℕ) → On P p → s .place p ≡ R2 → Right (row L s p R2) bit
   count-R2 p on e =
       let c = L .home p in
       let k = pick-same c 1 in
@@ -300,7 +242,7 @@ module _ (P : ℕ) (L : Plan) (sensible : Sensible P L) (s : Lock) (bit : ℕ �
       none-inside
 
   -- R5 takes DEPART
-  count-R5 : (p : ℕ) → On P p → s .place p ≡ R5 → Counted P C (L .reader-threshold) (tally L (row L s p R5) bit)
+  count-R5 : (p : ℕ) → On P p → s .place p ≡ R5 → Right (row L s p R5) bit
   count-R5 p on e =
       let c = L .home p in
       let n = s .departs c in
@@ -316,8 +258,7 @@ module _ (P : ℕ) (L : Plan) (sensible : Sensible P L) (s : Lock) (bit : ℕ �
       (λ d e. let z : _≡_ {A = ℕ} 0 1 = cc in omega arith)
 
   -- R6 takes the same out of ARRIVE
-  count-R6 : (p n : ℕ) → On P p → s .place p ≡ R6 n
-      → Counted P C (L .reader-threshold) (tally L (row L s p (R6 n)) bit)
+  count-R6 : (p n : ℕ) → On P p → s .place p ≡ R6 n → Right (row L s p (R6 n)) bit
   count-R6 p n on e =
       let c = L .home p in
       let k = pick-same c n in
@@ -333,7 +274,7 @@ module _ (P : ℕ) (L : Plan) (sensible : Sensible P L) (s : Lock) (bit : ℕ �
       none-inside
 
   -- R7 counts itself among the departed
-  count-R7 : (p : ℕ) → On P p → s .place p ≡ R7 → Counted P C (L .reader-threshold) (tally L (row L s p R7) bit)
+  count-R7 : (p : ℕ) → On P p → s .place p ≡ R7 → Right (row L s p R7) bit
   count-R7 p on e =
       let c = L .home p in
       let k = pick-same c 1 in
@@ -348,7 +289,7 @@ module _ (P : ℕ) (L : Plan) (sensible : Sensible P L) (s : Lock) (bit : ℕ �
       none-inside
 
   -- a reader leaves
-  count-leave : (p : ℕ) → On P p → s .place p ≡ Reader → Counted P C (L .reader-threshold) (tally L (go s p R7) bit)
+  count-leave : (p : ℕ) → On P p → s .place p ≡ Reader → Right (go s p R7) bit
   count-leave p on e =
       let c = L .home p in
       drain p c Reader R7 (s .arrives) (s .departs) on e (sym (gate-at T s p Reader e))
@@ -361,7 +302,7 @@ module _ (P : ℕ) (L : Plan) (sensible : Sensible P L) (s : Lock) (bit : ℕ �
       (λ d e. let z : _≡_ {A = ℕ} 0 1 = cc in omega arith)
 
   -- R1 enters, or counts itself among the refused
-  count-R1 : (p : ℕ) → On P p → s .place p ≡ R1 → Counted P C (L .reader-threshold) (tally L (row L s p R1) bit)
+  count-R1 : (p : ℕ) → On P p → s .place p ≡ R1 → Right (row L s p R1) bit
   count-R1 p on e = by (ltb (s .arrives c) (L .reader-threshold)) refl
     where
       c : ℕ
@@ -377,20 +318,10 @@ module _ (P : ℕ) (L : Plan) (sensible : Sensible P L) (s : Lock) (bit : ℕ �
       u = upd-same (s .arrives) (L .home p) (suc (s .arrives (L .home p)))
 
       by : (b : Bool) → ltb (s .arrives (L .home p)) (L .reader-threshold) ≡ b
-          → Counted P C (L .reader-threshold)
-          (tally L
-          (record {
-            place = upd (s .place) p (cond b Reader R2);
-            nexts = s .nexts;
-            statuses = s .statuses;
-            tails = s .tails;
-            arrives = upd (s .arrives) (L .home p) (suc (s .arrives (L .home p)));
-            departs = s .departs;
-            node-at = s .node-at;
-            head-turn = s .head-turn;
-            next-turn = s .next-turn;
-          })
-          bit)
+          → Right
+          (go (put-arrive s (L .home p) (suc (s .arrives (L .home p)))) p
+          (cond b Reader R2))
+          bit
       by true z = after p Reader (upd (s .arrives) (L .home p) (suc (s .arrives (L .home p)))) (s .departs)
           (sym (gate-at T s p R1 e))
           (entered P C (L .reader-threshold) (sensible .threshold-fits) (tally L s bit) (v .counted) p (L .home p)
@@ -417,8 +348,7 @@ module _ (P : ℕ) (L : Plan) (sensible : Sensible P L) (s : Lock) (bit : ℕ �
           (λ d e. let z : _≡_ {A = ℕ} 0 1 = cc in omega arith)
 
   -- U6 takes DEPART
-  count-U6 : (p n : ℕ) → On P p → s .place p ≡ U6 n
-      → Counted P C (L .reader-threshold) (tally L (row L s p (U6 n)) bit)
+  count-U6 : (p n : ℕ) → On P p → s .place p ≡ U6 n → Right (row L s p (U6 n)) bit
   count-U6 p n on e =
       let m = s .departs n in
       let k = pick-same n m in
@@ -434,7 +364,7 @@ module _ (P : ℕ) (L : Plan) (sensible : Sensible P L) (s : Lock) (bit : ℕ �
 
   -- a writer's row at the counter k, from f to g
   flip : (p k : ℕ) (f g : Place) (arrives bit′ : ℕ → ℕ) → On P p → On (T .own-level p) 1 → s .place p ≡ f
-      → hold-level (T .own-level p) (phase T s p) ≤ 1 → Local (load-of (L .home p) f) (load-of (L .home p) g) k
+      → holds-from T (view T s) p ≤ 1 → Local (load-of (L .home p) f) (load-of (L .home p) g) k
       → ((d : ℕ) → d ≢ k → arrives d ≡ s .arrives d) → ((d : ℕ) → d ≢ k → bit′ d ≡ bit d) → bit′ k ≤ 1
       → arrives k + write-bit * bit k + s .departs k + tries (load-of (L .home p) f) k
       + admits (load-of (L .home p) f) k + clears (load-of (L .home p) f) k
@@ -446,33 +376,9 @@ module _ (P : ℕ) (L : Plan) (sensible : Sensible P L) (s : Lock) (bit : ℕ �
       → ((c : ℕ) → c < C → bit′ c ≡ 1 → Marks h c)
       → ((c : ℕ) → c < C → Keeps h c → (q : ℕ) → On P q → load′ p g q ≢ inside c)
       → ((j n : ℕ) → h ≡ reading j n → write-bit + s .departs j + total P (λ q. admits (load′ p g q) j) ≤ n)
-      → Counted P C (L .reader-threshold)
-      (tally L
-      (record {
-        place = upd (s .place) p g;
-        nexts = s .nexts;
-        statuses = s .statuses;
-        tails = s .tails;
-        arrives = arrives;
-        departs = s .departs;
-        node-at = s .node-at;
-        head-turn = s .head-turn;
-        next-turn = s .next-turn;
-      })
-      bit′)
+      → Right (go (with-counts s arrives (s .departs)) p g) bit′
   flip p k f g arrives bit′ on o e lv lc x y bs fl fa h gh mk sd kp ss =
-      let s₁ : Lock =
-      record {
-        place = s .place;
-        nexts = s .nexts;
-        statuses = s .statuses;
-        tails = s .tails;
-        arrives = arrives;
-        departs = s .departs;
-        node-at = s .node-at;
-        head-turn = s .head-turn;
-        next-turn = s .next-turn;
-      } in
+      let s₁ : Lock = with-counts s arrives (s .departs) in
       let now : gate T (go s₁ p g) p ≡ h = gate-now T s₁ p g ∙ gh in
       flipped P C (L .reader-threshold) (tally L s bit) (v .counted) p k on (tally L (go s₁ p g) bit′) (record {
         shift = shift p k f g arrives (s .departs) e lc x (λ d ne. refl);
@@ -489,8 +395,8 @@ module _ (P : ℕ) (L : Plan) (sensible : Sensible P L) (s : Lock) (bit : ℕ �
       })
 
   -- the one writer marks each bit that stands
-  own-marks : (p : ℕ) → On (T .own-level p) 1 → hold-level (T .own-level p) (phase T s p) ≤ 1 → (c : ℕ) → c < C
-      → bit c ≡ 1 → Marks (gate T s p) c
+  own-marks : (p : ℕ) → On (T .own-level p) 1 → holds-from T (view T s) p ≤ 1 → (c : ℕ) → c < C → bit c ≡ 1
+      → Marks (gate T s p) c
   own-marks p o lv c l z =
       let w = v .counted .each c l .stands z in
       split p
@@ -509,26 +415,18 @@ module _ (P : ℕ) (L : Plan) (sensible : Sensible P L) (s : Lock) (bit : ℕ �
       (λ q a on w. h q on (sym (load-other p g q a) ∙ w))
 
   -- rows W8, W9, U5, and W6 at level 1: no word changes
-  turn : (p : ℕ) (f g : Place) → On P p → On (T .own-level p) 1 → s .place p ≡ f
-      → hold-level (T .own-level p) (phase T s p) ≤ 1 → load-of (L .home p) f ≡ none → load-of (L .home p) g ≡ none
-      → (h : Gate) → gate-of g (s .statuses (T .node p (status-level g))) ≡ h
+  turn : (p : ℕ) (f g : Place) → On P p → On (T .own-level p) 1 → s .place p ≡ f → holds-from T (view T s) p ≤ 1
+      → load-of (L .home p) f ≡ none → load-of (L .home p) g ≡ none → (h : Gate)
+      → gate-of g (s .statuses (T .node p (status-level g))) ≡ h
       → ((c : ℕ) → c < C → Marks h c → Marks (gate T s p) c) → ((c : ℕ) → c < C → Marks (gate T s p) c → Marks h c)
       → ((c : ℕ) → c < C → Keeps h c → (q : ℕ) → On P q → load q ≢ inside c)
       → ((j n : ℕ) → h ≡ reading j n → write-bit + s .departs j + total P (λ q. admits (load q) j) ≤ n)
-      → Counted P C (L .reader-threshold) (tally L (go s p g) bit)
-  turn p f g on o e lv lf lg h gh mk sd kp ss =
-      let same : (q : ℕ) → load′ p g q ≡ load q =
-      split p
-      (λ q. load′ p g q ≡ load q)
-      (load-now p g ∙ (lg ∙ sym (ap (load-of (L .home p)) e ∙ lf)))
-      (load-other p g) in
-      ⊎-elim
-      (λ (z : 0 < C).
-      flip p 0 f g (s .arrives) bit on o e lv
+      → Right (go s p g) bit
+  turn p f g on o e lv lf lg h gh mk sd kp ss = flip p 0 f g (s .arrives) bit on o e lv
       (λ d ne. rw (lf, lg) (refl, refl, refl))
       (λ d ne. refl)
       (λ d ne. refl)
-      (v .counted .each 0 z .bits)
+      (v .counted .each 0 (omega (arith, homes p)) .bits)
       (rw (lf, lg))
       (rw (lf, lg) (omega arith))
       h
@@ -536,25 +434,23 @@ module _ (P : ℕ) (L : Plan) (sensible : Sensible P L) (s : Lock) (bit : ℕ �
       (λ c l w. v .counted .marked p c l (mk c l w))
       (λ c l w. sd c l (own-marks p o lv c l w))
       (λ c l w. not-inside p g c lg (kp c l w))
-      (λ j n w.
-      let t : total P (λ q. admits (load′ p g q) j)
-      ≡ total P (λ q. admits (load q) j) =
-      total-same P
-      (λ q. admits (load q) j)
-      (λ q. admits (load′ p g q) j)
-      (λ q _ _. ap (λ l. admits l j) (same q)) in
-      omega (arith, ss j n w)))
-      (λ (z : C ≤ 0). absurd (omega (arith, homes p)))
-      (cases-lt 0 C)
+      (λ j n w. omega (arith, ss j n w, admitted j))
+    where
+      -- the rank has no load before or after, so no load changes
+      same : (q : ℕ) → load′ p g q ≡ load q
+      same = split p (λ q. load′ p g q ≡ load q) (load-now p g ∙ (lg ∙ sym (ap (load-of (L .home p)) e ∙ lf)))
+          (load-other p g)
+
+      admitted : (j : ℕ) → total P (λ q. admits (load′ p g q) j) ≡ total P (λ q. admits (load q) j)
+      admitted j = total-same P (λ q. admits (load q) j) (λ q. admits (load′ p g q) j)
+          (λ q _ _. ap (λ l. admits l j) (same q))
 
   -- the writer holds the whole machine
-  level-1 : (p : ℕ) (f : Place) → s .place p ≡ f → ((w : ℕ) → phase-of f w ≡ hold 1)
-      → hold-level (T .own-level p) (phase T s p) ≤ 1
+  level-1 : (p : ℕ) (f : Place) → s .place p ≡ f → ((w : ℕ) → phase-of f w ≡ hold 1) → holds-from T (view T s) p ≤ 1
   level-1 p f e h = rw (phase-at T s p f e, h (s .statuses (T .node p (status-level f)))) (omega arith)
 
   -- W8 reads ARRIVE: it covers all inside, since the bit stands
-  count-W8 : (p k : ℕ) → On P p → On (T .own-level p) 1 → k < C → s .place p ≡ W8 k
-      → Counted P C (L .reader-threshold) (tally L (row L s p (W8 k)) bit)
+  count-W8 : (p k : ℕ) → On P p → On (T .own-level p) 1 → k < C → s .place p ≡ W8 k → Right (row L s p (W8 k)) bit
   count-W8 p k on o l e =
       let g = gate-at T s p (W8 k) e in
       turn p (W8 k) (W9 k (s .arrives k)) on o e (level-1 p (W8 k) e (λ w. refl)) refl refl (reading k (s .arrives k))
@@ -573,8 +469,8 @@ module _ (P : ℕ) (L : Plan) (sensible : Sensible P L) (s : Lock) (bit : ℕ �
 
   -- W9 goes on where nobody is in, and reads again elsewhere
   count-W9 : (p k n : ℕ) → On P p → On (T .own-level p) 1 → k < C → s .place p ≡ W9 k n
-      → Counted P C (L .reader-threshold) (tally L (row L s p (W9 k n)) bit)
-  count-W9 p k n on o l e = by (eqb n (2 ^ 62 + s .departs k)) (ltb (suc k) C) refl refl
+      → Right (row L s p (W9 k n)) bit
+  count-W9 p k n on o l e = by (eqb n (write-bit + s .departs k)) (ltb (suc k) C) refl refl
     where
       g : gate T s p ≡ reading k n
       g = gate-at T s p (W9 k n) e
@@ -582,7 +478,7 @@ module _ (P : ℕ) (L : Plan) (sensible : Sensible P L) (s : Lock) (bit : ℕ �
       old : (c : ℕ) → c < C → c < k → (q : ℕ) → On P q → load q ≢ inside c
       old c m w = v .counted .kept p c m (rw g w)
 
-      new : n ≡ 2 ^ 62 + s .departs k → (c : ℕ) → c < C → c ≤ k → (q : ℕ) → On P q → load q ≢ inside c
+      new : n ≡ write-bit + s .departs k → (c : ℕ) → c < C → c ≤ k → (q : ℕ) → On P q → load q ≢ inside c
       new z c m w = ⊎-elim
           (λ (y : c ≡ k).
           subst
@@ -592,18 +488,18 @@ module _ (P : ℕ) (L : Plan) (sensible : Sensible P L) (s : Lock) (bit : ℕ �
           (λ (y : c ≡ k → ⊥). old c m (omega arith))
           (cases-eq c k)
 
-      by : (a b : Bool) → eqb n (2 ^ 62 + s .departs k) ≡ a → ltb (suc k) C ≡ b
-          → Counted P C (L .reader-threshold) (tally L (go s p (cond a (cond b (W8 (suc k)) Writer) (W8 k))) bit)
+      by : (a b : Bool) → eqb n (write-bit + s .departs k) ≡ a → ltb (suc k) C ≡ b
+          → Right (go s p (cond a (cond b (W8 (suc k)) Writer) (W8 k))) bit
       by true true x y = turn p (W9 k n) (W8 (suc k)) on o e (level-1 p (W9 k n) e (λ w. refl)) refl refl
           (checking (suc k)) refl
           (λ c m w. rw g tt)
           (λ c m w. tt)
-          (λ c m w. new (eqb-true n (2 ^ 62 + s .departs k) x) c m (omega arith))
+          (λ c m w. new (eqb-true n (write-bit + s .departs k) x) c m (omega arith))
           (λ j i w. absurd (let z : _≡_ {A = ℕ} 0 1 = cc in omega arith))
       by true false x y = turn p (W9 k n) Writer on o e (level-1 p (W9 k n) e (λ w. refl)) refl refl wide refl
           (λ c m w. rw g tt)
           (λ c m w. tt)
-          (λ c m w. new (eqb-true n (2 ^ 62 + s .departs k) x) c m (omega (arith, ltb-false (suc k) C y)))
+          (λ c m w. new (eqb-true n (write-bit + s .departs k) x) c m (omega (arith, ltb-false (suc k) C y)))
           (λ j i w. absurd (let z : _≡_ {A = ℕ} 0 1 = cc in omega arith))
       by false b x y = turn p (W9 k n) (W8 k) on o e (level-1 p (W9 k n) e (λ w. refl)) refl refl (checking k) refl
           (λ c m w. rw g tt)
@@ -613,14 +509,14 @@ module _ (P : ℕ) (L : Plan) (sensible : Sensible P L) (s : Lock) (bit : ℕ �
 
   -- W7 sets a write bit
   count-W7 : (p k : ℕ) → On P p → On (T .own-level p) 1 → k < C → s .place p ≡ W7 k
-      → Counted P C (L .reader-threshold) (tally L (row L s p (W7 k)) (upd bit k 1))
+      → Right (row L s p (W7 k)) (upd bit k 1)
   count-W7 p k on o l e = by (ltb (suc k) C) refl
     where
       g : gate T s p ≡ raising k
       g = gate-at T s p (W7 k) e
 
       -- the writer holds the whole machine
-      lv : hold-level (T .own-level p) (phase T s p) ≤ 1
+      lv : holds-from T (view T s) p ≤ 1
       lv = level-1 p (W7 k) e (λ w. refl)
 
       down : bit k ≡ 0
@@ -650,26 +546,13 @@ module _ (P : ℕ) (L : Plan) (sensible : Sensible P L) (s : Lock) (bit : ℕ �
       at : (q : Place) (h : Gate) → load-of (L .home p) q ≡ none
           → gate-of q (s .statuses (T .node p (status-level q))) ≡ h → ((c : ℕ) → c < C → Marks h c → c < suc k)
           → ((c : ℕ) → c < C → c < suc k → Marks h c) → ((c : ℕ) → Keeps h c → ⊥) → ((j n : ℕ) → h ≡ reading j n → ⊥)
-          → Counted P C (L .reader-threshold)
-          (tally L
-          (record {
-            place = upd (s .place) p q;
-            nexts = s .nexts;
-            statuses = s .statuses;
-            tails = s .tails;
-            arrives = upd (s .arrives) k (s .arrives k + 2 ^ 62);
-            departs = s .departs;
-            node-at = s .node-at;
-            head-turn = s .head-turn;
-            next-turn = s .next-turn;
-          })
-          (upd bit k 1))
-      at q h lq gq a b c d = flip p k (W7 k) q (upd (s .arrives) k (s .arrives k + 2 ^ 62)) (upd bit k 1) on o e lv
+          → Right (go (put-arrive s k (s .arrives k + write-bit)) p q) (upd bit k 1)
+      at q h lq gq a b c d = flip p k (W7 k) q (upd (s .arrives) k (s .arrives k + write-bit)) (upd bit k 1) on o e lv
           (λ d ne. rw lq (refl, refl, refl))
-          (λ d ne. upd-other (s .arrives) k (s .arrives k + 2 ^ 62) d ne)
+          (λ d ne. upd-other (s .arrives) k (s .arrives k + write-bit) d ne)
           (λ d ne. upd-other bit k 1 d ne)
           (omega (arith, up))
-          (rw lq (omega (arith, up, down, upd-same (s .arrives) k (s .arrives k + 2 ^ 62))))
+          (rw lq (omega (arith, up, down, upd-same (s .arrives) k (s .arrives k + write-bit))))
           (rw lq (omega arith))
           h
           gq
@@ -679,20 +562,10 @@ module _ (P : ℕ) (L : Plan) (sensible : Sensible P L) (s : Lock) (bit : ℕ �
           (λ j n w. absurd (d j n w))
 
       by : (b : Bool) → ltb (suc k) C ≡ b
-          → Counted P C (L .reader-threshold)
-          (tally L
-          (record {
-            place = upd (s .place) p (cond b (W7 (suc k)) (W8 0));
-            nexts = s .nexts;
-            statuses = s .statuses;
-            tails = s .tails;
-            arrives = upd (s .arrives) k (s .arrives k + 2 ^ 62);
-            departs = s .departs;
-            node-at = s .node-at;
-            head-turn = s .head-turn;
-            next-turn = s .next-turn;
-          })
-          (upd bit k 1))
+          → Right
+          (go (put-arrive s k (s .arrives k + write-bit)) p
+          (cond b (W7 (suc k)) (W8 0)))
+          (upd bit k 1)
       by true z = at (W7 (suc k)) (raising (suc k)) refl refl
           (λ c m w. w)
           (λ c m w. w)
@@ -706,13 +579,13 @@ module _ (P : ℕ) (L : Plan) (sensible : Sensible P L) (s : Lock) (bit : ℕ �
 
   -- U7 clears a write bit, and takes what was departed out of ARRIVE
   count-U7 : (p k n : ℕ) → On P p → On (T .own-level p) 1 → k < C → s .place p ≡ U7 k n
-      → Counted P C (L .reader-threshold) (tally L (row L s p (U7 k n)) (upd bit k 0))
+      → Right (row L s p (U7 k n)) (upd bit k 0)
   count-U7 p k n on o l e = by (ltb (suc k) C) refl
     where
       g : gate T s p ≡ lowering k
       g = gate-at T s p (U7 k n) e
 
-      lv : hold-level (T .own-level p) (phase T s p) ≤ 1
+      lv : holds-from T (view T s) p ≤ 1
       lv = level-1 p (U7 k n) e (λ w. refl)
 
       stood : bit k ≡ 1
@@ -738,24 +611,11 @@ module _ (P : ℕ) (L : Plan) (sensible : Sensible P L) (s : Lock) (bit : ℕ �
       at : (q : Place) (h : Gate) → load-of (L .home p) q ≡ none
           → gate-of q (s .statuses (T .node p (status-level q))) ≡ h → ((c : ℕ) → c < C → Marks h c → suc k ≤ c)
           → ((c : ℕ) → c < C → suc k ≤ c → Marks h c) → ((c : ℕ) → Keeps h c → ⊥) → ((j n : ℕ) → h ≡ reading j n → ⊥)
-          → Counted P C (L .reader-threshold)
-          (tally L
-          (record {
-            place = upd (s .place) p q;
-            nexts = s .nexts;
-            statuses = s .statuses;
-            tails = s .tails;
-            arrives = upd (s .arrives) k (s .arrives k - (2 ^ 62 + n));
-            departs = s .departs;
-            node-at = s .node-at;
-            head-turn = s .head-turn;
-            next-turn = s .next-turn;
-          })
-          (upd bit k 0))
-      at q h lq gq a b c d = flip p k (U7 k n) q (upd (s .arrives) k (s .arrives k - (2 ^ 62 + n))) (upd bit k 0) on o
-          e lv
+          → Right (go (put-arrive s k (s .arrives k - (write-bit + n))) p q) (upd bit k 0)
+      at q h lq gq a b c d = flip p k (U7 k n) q (upd (s .arrives) k (s .arrives k - (write-bit + n))) (upd bit k 0)
+          on o e lv
           (λ d ne. rw lq (refl, refl, sym (pick-other k n d (λ z. ne (sym z)))))
-          (λ d ne. upd-other (s .arrives) k (s .arrives k - (2 ^ 62 + n)) d ne)
+          (λ d ne. upd-other (s .arrives) k (s .arrives k - (write-bit + n)) d ne)
           (λ d ne. upd-other bit k 0 d ne)
           (omega (arith, low))
           (rw lq
@@ -765,7 +625,7 @@ module _ (P : ℕ) (L : Plan) (sensible : Sensible P L) (s : Lock) (bit : ℕ �
             stood,
             has,
             pick-same k n,
-            upd-same (s .arrives) k (s .arrives k - (2 ^ 62 + n)),
+            upd-same (s .arrives) k (s .arrives k - (write-bit + n)),
           )))
           (rw lq (omega arith))
           h
@@ -776,20 +636,10 @@ module _ (P : ℕ) (L : Plan) (sensible : Sensible P L) (s : Lock) (bit : ℕ �
           (λ j n w. absurd (d j n w))
 
       by : (b : Bool) → ltb (suc k) C ≡ b
-          → Counted P C (L .reader-threshold)
-          (tally L
-          (record {
-            place = upd (s .place) p (cond b (U6 (suc k)) (U8 1));
-            nexts = s .nexts;
-            statuses = s .statuses;
-            tails = s .tails;
-            arrives = upd (s .arrives) k (s .arrives k - (2 ^ 62 + n));
-            departs = s .departs;
-            node-at = s .node-at;
-            head-turn = s .head-turn;
-            next-turn = s .next-turn;
-          })
-          (upd bit k 0))
+          → Right
+          (go (put-arrive s k (s .arrives k - (write-bit + n))) p
+          (cond b (U6 (suc k)) (U8 1)))
+          (upd bit k 0)
       by true z = at (U6 (suc k)) (lowering (suc k)) refl refl
           (λ c m w. w)
           (λ c m w. w)
@@ -808,24 +658,21 @@ module _ (P : ℕ) (L : Plan) (sensible : Sensible P L) (s : Lock) (bit : ℕ �
       × (load-of (L .home p) g ≡ load-of (L .home p) f)
 
   -- such a row
-  plain : (p : ℕ) (f g : Place) → s .place p ≡ f → Plain p f g
-      → Counted P C (L .reader-threshold) (tally L (go s p g) bit)
+  plain : (p : ℕ) (f g : Place) → s .place p ≡ f → Plain p f g → Right (go s p g) bit
   plain p f g e h =
       still (s .statuses) p g (h .0 ∙ sym (gate-at T s p f e)) (h .1 ∙ sym (ap (load-of (L .home p)) e)) (λ q a. refl)
 
   -- and one that also writes the own STATUS
-  owned : (p i u : ℕ) (f g : Place) → s .place p ≡ f → On (T .own-level p) i
-      → hold-level (T .own-level p) (phase T s p) ≤ suc i
+  owned : (p i u : ℕ) (f g : Place) → s .place p ≡ f → On (T .own-level p) i → holds-from T (view T s) p ≤ suc i
       → gate-of g (upd (s .statuses) (T .node p i) u (T .node p (status-level g)))
       ≡ gate-of f (s .statuses (T .node p (status-level f))) → load-of (L .home p) g ≡ load-of (L .home p) f
-      → Counted P C (L .reader-threshold) (tally L (go (put-status s (T .node p i) u) p g) bit)
+      → Right (go (put-status s (T .node p i) u) p g) bit
   owned p i u f g e on lv x y = still (upd (s .statuses) (T .node p i) u) p g (x ∙ sym (gate-at T s p f e))
       (y ∙ sym (ap (load-of (L .home p)) e))
       (λ q a. gate-status p i u on lv q a)
 
   -- W6 at level 1 begins with the bits
-  count-W6 : (p i : ℕ) → On P p → s .place p ≡ W6 i
-      → Counted P C (L .reader-threshold) (tally L (row L s p (W6 i)) bit)
+  count-W6 : (p i : ℕ) → On P p → s .place p ≡ W6 i → Right (row L s p (W6 i)) bit
   count-W6 p i onp e = by (leb 2 i) refl
     where
       was : phase T s p ≡ hold i
@@ -834,12 +681,10 @@ module _ (P : ℕ) (L : Plan) (sensible : Sensible P L) (s : Lock) (bit : ℕ �
       on : On (T .own-level p) i
       on = subst (InRange (T .own-level p)) was (inv .range p)
 
-      lv : hold-level (T .own-level p) (phase T s p) ≡ i
+      lv : holds-from T (view T s) p ≡ i
       lv = ap (hold-level (T .own-level p)) was
 
-      by : (b : Bool) → leb 2 i ≡ b
-          → Counted P C (L .reader-threshold)
-          (tally L (go (put-status s (T .node p i) 0) p (cond b (W1 (pred i)) (W7 0))) bit)
+      by : (b : Bool) → leb 2 i ≡ b → Right (go (put-status s (T .node p i) 0) p (cond b (W1 (pred i)) (W7 0))) bit
       by true z = owned p i 0 (W6 i) (W1 (pred i)) e on (omega (arith, lv)) refl refl
       by false z = tallied P C (L .reader-threshold) (tally L (go s p (W7 0)) bit)
           (tally L (go (put-status s (T .node p i) 0) p (W7 0)) bit)
@@ -862,15 +707,14 @@ module _ (P : ℕ) (L : Plan) (sensible : Sensible P L) (s : Lock) (bit : ℕ �
           (λ j n e. absurd (let z : _≡_ {A = ℕ} 0 1 = cc in omega arith)))
 
   -- W5 enters with the bits that were handed over
-  count-W5 : (p i : ℕ) → s .place p ≡ W5 i → Counted P C (L .reader-threshold) (tally L (row L s p (W5 i)) bit)
-  count-W5 p i e = by (eqb w WAIT) (leb w 1000) (eqb w (told-status i)) refl refl
+  count-W5 : (p i : ℕ) → s .place p ≡ W5 i → Right (row L s p (W5 i)) bit
+  count-W5 p i e = by (eqb w WAIT) (leb w most-hand-overs) (eqb w (told-status i)) refl refl
     where
       w : ℕ
       w = s .statuses (T .node p i)
 
-      by : (a b c : Bool) → eqb w WAIT ≡ a → leb w 1000 ≡ b
-          → Counted P C (L .reader-threshold)
-          (tally L (cond a s (cond b (go s p Writer) (cond c (go s p (W6 i)) s))) bit)
+      by : (a b c : Bool) → eqb w WAIT ≡ a → leb w most-hand-overs ≡ b
+          → Right (cond a s (cond b (go s p Writer) (cond c (go s p (W6 i)) s))) bit
       by true b c x y = v .counted
       by false true c x y = plain p (W5 i) Writer e (rw (x, y) (refl, refl))
       by false false true x y = plain p (W5 i) (W6 i) e (rw (x, y) (refl, refl))
@@ -894,7 +738,7 @@ module _ (P : ℕ) (L : Plan) (sensible : Sensible P L) (s : Lock) (bit : ℕ �
     r≢p : n .rank ≢ p
     r≢p z = subst (λ f. Waits f i) (sym (n .waits) ∙ (ap (phase T s) z ∙ was)) refl
 
-    lv : hold-level (T .own-level (n .rank)) (phase T s (n .rank)) ≤ suc i
+    lv : holds-from T (view T s) (n .rank) ≤ suc i
     lv = rw (n .waits) (omega arith)
 
     -- the gate of the giver after it
@@ -928,16 +772,18 @@ module _ (P : ℕ) (L : Plan) (sensible : Sensible P L) (s : Lock) (bit : ℕ �
         (λ q a. sym (load-other p (done L s p i) q a))
 
   -- U3: the bits go with the section
-  count-U3 : (p i t n : ℕ) → On (T .own-level p) 1 → s .place p ≡ U3 i t n
-      → Counted P C (L .reader-threshold) (tally L (row L s p (U3 i t n)) bit)
+  count-U3 : (p i t n : ℕ) → On (T .own-level p) 1 → s .place p ≡ U3 i t n → Right (row L s p (U3 i t n)) bit
   count-U3 p i t u o e =
       let was : phase T s p ≡ give 1 i t = phase-at T s p (U3 i t u) e in
       let m = n p 1 i t u (U3 i t u) e was in
       let so = subst (Sound L (s .statuses) p) e (v .fine .sound p) in
       let wd : gate-of (W5 i) u ≡ wide =
-      rw (ne-eqb u WAIT (omega (arith, so .0, small i)), le-leb u 1000 (omega (arith, so .0, small i))) in
+      rw (
+        ne-eqb u WAIT (omega (arith, so .0, small i)),
+        le-leb u most-hand-overs (omega (arith, so .0, small i)),
+      ) in
       subst
-      (λ y. Counted P C (L .reader-threshold) (tally L (go (put-status s y u) p (done L s p i)) bit))
+      (λ y. Right (go (put-status s y u) p (done L s p i)) bit)
       (sym (m .target))
       (tallied P C (L .reader-threshold)
       (record {
@@ -963,25 +809,23 @@ module _ (P : ℕ) (L : Plan) (sensible : Sensible P L) (s : Lock) (bit : ℕ �
       })))
 
   -- U9: neither of the two stands for a bit
-  count-U9 : (p i t : ℕ) → s .place p ≡ U9 i t → Counted P C (L .reader-threshold) (tally L (row L s p (U9 i t)) bit)
+  count-U9 : (p i t : ℕ) → s .place p ≡ U9 i t → Right (row L s p (U9 i t)) bit
   count-U9 p i t e =
       let was : phase T s p ≡ give i i t = phase-at T s p (U9 i t) e in
       let u = told-status i in
       let m = n p i i t u (U9 i t) e was in
       let on : (1 ≤ i) × (i ≤ i) × (i ≤ T .own-level p) = subst (InRange (T .own-level p)) was (inv .range p) in
-      let big : (WAIT < told-status i) × (1000 < told-status i) = told-large i in
-      let told : gate-of (W5 i) u ≡ shut = rw (ne-eqb u WAIT (omega arith), lt-leb u 1000 (omega arith)) in
-      let lr : hold-level (T .own-level (m .rank)) (phase T s (m .rank)) ≡ suc i =
-      ap (hold-level (T .own-level (m .rank))) (m .waits) in
+      let big : (WAIT < told-status i) × (most-hand-overs < told-status i) = told-large i in
+      let told : gate-of (W5 i) u ≡ shut = rw (ne-eqb u WAIT (omega arith), lt-leb u most-hand-overs (omega arith)) in
+      let lr : holds-from T (view T s) (m .rank) ≡ suc i = ap (hold-level (T .own-level (m .rank))) (m .waits) in
       let before : gate T s (m .rank) ≡ shut =
       ⊎-elim
       (λ (z : gate T s (m .rank) ≡ shut). z)
-      (λ (z : (hold-level (T .own-level (m .rank)) (phase T s (m .rank)) ≡ 1) × On (T .own-level (m .rank)) 1).
-      absurd (omega arith))
+      (λ (z : (holds-from T (view T s) (m .rank) ≡ 1) × On (T .own-level (m .rank)) 1). absurd (omega arith))
       (gate-phase (T .own-level (m .rank)) (s .place (m .rank))
       (s .statuses (T .node (m .rank) (status-level (s .place (m .rank))))) (inv .range (m .rank))) in
       subst
-      (λ y. Counted P C (L .reader-threshold) (tally L (go (put-status s y u) p (done L s p i)) bit))
+      (λ y. Right (go (put-status s y u) p (done L s p i)) bit)
       (sym (m .target))
       (tallied P C (L .reader-threshold) (tally L s bit)
       (tally L (go (put-status s (T .node (m .rank) i) u) p (done L s p i)) bit)
@@ -1001,34 +845,29 @@ module _ (P : ℕ) (L : Plan) (sensible : Sensible P L) (s : Lock) (bit : ℕ �
   two p f b g h x y = cond-both b g h (Plain p f) (λ _. x) (λ _. y)
 
   -- U5 hands over, or begins to clear the bits
-  count-U5 : (p n : ℕ) → On P p → On (T .own-level p) 1 → s .place p ≡ U5 n
-      → Counted P C (L .reader-threshold) (tally L (row L s p (U5 n)) bit)
+  count-U5 : (p n : ℕ) → On P p → On (T .own-level p) 1 → s .place p ≡ U5 n → Right (row L s p (U5 n)) bit
   count-U5 p n onp o e = by (eqb (s .nexts (T .node p 1)) 0) (ltb n (L .hand-over-limit p 1))
     where
       g : gate T s p ≡ wide
       g = gate-at T s p (U5 n) e
 
-      lower : Counted P C (L .reader-threshold) (tally L (go s p (U6 0)) bit)
+      lower : Right (go s p (U6 0)) bit
       lower = turn p (U5 n) (U6 0) onp o e (level-1 p (U5 n) e (λ w. refl)) refl refl (lowering 0) refl
           (λ c m w. rw g tt)
           (λ c m w. omega arith)
           (λ c m w. absurd w)
           (λ j n e. absurd (let z : _≡_ {A = ℕ} 0 1 = cc in omega arith))
 
-      by : (a b : Bool)
-          → Counted P C (L .reader-threshold)
-          (tally L (go s p (cond a (U6 0) (cond b (U3 1 (s .nexts (T .node p 1)) (suc n)) (U6 0)))) bit)
+      by : (a b : Bool) → Right (go s p (cond a (U6 0) (cond b (U3 1 (s .nexts (T .node p 1)) (suc n)) (U6 0)))) bit
       by true b = lower
       by false true = plain p (U5 n) (U3 1 (s .nexts (T .node p 1)) (suc n)) e (refl, refl)
       by false false = lower
 
   -- U10 touches no counter
-  count-U10 : (p i : ℕ) → s .place p ≡ U10 i → Counted P C (L .reader-threshold) (tally L (row L s p (U10 i)) bit)
+  count-U10 : (p i : ℕ) → s .place p ≡ U10 i → Right (row L s p (U10 i)) bit
   count-U10 p i e = by (eqb (s .tails (T .element p i)) (T .node p i))
     where
-      by : (b : Bool)
-          → Counted P C (L .reader-threshold)
-          (tally L (cond b (go (free s (T .element p i)) p (done L s p i)) (go s p (U8 i))) bit)
+      by : (b : Bool) → Right (cond b (go (free s (T .element p i)) p (done L s p i)) (go s p (U8 i))) bit
       by true = plain p (U10 i) (done L s p i) e
           (two p (U10 i) (eqb i (T .own-level p)) Idle (U8 (suc i)) (refl, refl) (refl, refl))
       by false = plain p (U10 i) (U8 i) e (refl, refl)
@@ -1067,7 +906,7 @@ module _ (P : ℕ) (L : Plan) (sensible : Sensible P L) (s : Lock) (bit : ℕ �
 
   -- every row keeps the counters
   pub count-row : (p : ℕ) → On P p → On (T .own-level p) 1 → (f : Place) → s .place p ≡ f
-      → Counted P C (L .reader-threshold) (tally L (row L s p f) (bits f))
+      → Right (row L s p f) (bits f)
   count-row p on o Idle e = v .counted
   count-row p on o (W1 i) e = plain p (W1 i) (W2 i) e (refl, refl)
   count-row p on o (W2 i) e =
@@ -1115,11 +954,11 @@ module _ (P : ℕ) (L : Plan) (sensible : Sensible P L) (s : Lock) (bit : ℕ �
   count-row p on o R2 e = count-R2 p on e
   count-row p on o R3 e = plain p R3
       (cond (ltb (s .arrives (L .home p)) (L .reader-threshold)) R1
-      (cond (leb (2 ^ 62) (s .arrives (L .home p))) R3 R4))
+      (cond (leb write-bit (s .arrives (L .home p))) R3 R4))
       e
       (two p R3 (ltb (s .arrives (L .home p)) (L .reader-threshold)) R1
-      (cond (leb (2 ^ 62) (s .arrives (L .home p))) R3 R4) (refl, refl)
-      (two p R3 (leb (2 ^ 62) (s .arrives (L .home p))) R3 R4 (refl, refl) (refl, refl)))
+      (cond (leb write-bit (s .arrives (L .home p))) R3 R4) (refl, refl)
+      (two p R3 (leb write-bit (s .arrives (L .home p))) R3 R4 (refl, refl) (refl, refl)))
   count-row p on o R4 e = plain p R4 (cond (eqb (s .tails (T .element p 1)) 0) R5 R3) e
       (two p R4 (eqb (s .tails (T .element p 1)) 0) R5 R3 (refl, refl) (refl, refl))
   count-row p on o R5 e = count-R5 p on e
@@ -1161,8 +1000,8 @@ module _ (P : ℕ) (L : Plan) (sensible : Sensible P L) (s : Lock) (bit : ℕ �
       (λ _. tt)
       (λ _. tt))
   within-all p (W4 i t) e = within-row p (W5 i) (tt)
-  within-all p (W5 i) e = within-W5 p i (eqb (s .statuses (T .node p i)) WAIT) (leb (s .statuses (T .node p i)) 1000)
-      (eqb (s .statuses (T .node p i)) (told-status i))
+  within-all p (W5 i) e = within-W5 p i (eqb (s .statuses (T .node p i)) WAIT)
+      (leb (s .statuses (T .node p i)) most-hand-overs) (eqb (s .statuses (T .node p i)) (told-status i))
   within-all p (W6 i) e = within-row p (cond (leb 2 i) (W1 (pred i)) (W7 0))
       (cond-both (leb 2 i) (W1 (pred i)) (W7 0) (Within C) (λ _. tt) (λ _. omega (arith, homes p)))
   within-all p (W7 k) e = within-row p (next L s p k (W8 0) W7)
@@ -1170,8 +1009,8 @@ module _ (P : ℕ) (L : Plan) (sensible : Sensible P L) (s : Lock) (bit : ℕ �
       (λ z. ltb-true (suc k) C z)
       (λ _. omega (arith, homes p)))
   within-all p (W8 k) e = within-row p (W9 k (s .arrives k)) (subst (Within C) e (v .within p))
-  within-all p (W9 k n) e = within-row p (cond (eqb n (2 ^ 62 + s .departs k)) (next L s p k Writer W8) (W8 k))
-      (cond-both (eqb n (2 ^ 62 + s .departs k)) (next L s p k Writer W8) (W8 k) (Within C)
+  within-all p (W9 k n) e = within-row p (cond (eqb n (write-bit + s .departs k)) (next L s p k Writer W8) (W8 k))
+      (cond-both (eqb n (write-bit + s .departs k)) (next L s p k Writer W8) (W8 k) (Within C)
       (λ _. cond-both (ltb (suc k) C) (W8 (suc k)) (Writer) (Within C) (λ z. ltb-true (suc k) C z) (λ _. tt))
       (λ _. subst (Within C) e (v .within p)))
   within-all p (U1 i) e = within-row p (U2 i (s .statuses (T .node p i))) (tt)
@@ -1217,11 +1056,11 @@ module _ (P : ℕ) (L : Plan) (sensible : Sensible P L) (s : Lock) (bit : ℕ �
   within-all p R2 e = within-row p (R3) (tt)
   within-all p R3 e = within-row p
       (cond (ltb (s .arrives (L .home p)) (L .reader-threshold)) R1
-      (cond (leb (2 ^ 62) (s .arrives (L .home p))) R3 R4))
+      (cond (leb write-bit (s .arrives (L .home p))) R3 R4))
       (cond-both (ltb (s .arrives (L .home p)) (L .reader-threshold)) (R1)
-      (cond (leb (2 ^ 62) (s .arrives (L .home p))) R3 R4) (Within C)
+      (cond (leb write-bit (s .arrives (L .home p))) R3 R4) (Within C)
       (λ _. tt)
-      (λ _. cond-both (leb (2 ^ 62) (s .arrives (L .home p))) (R3) (R4) (Within C) (λ _. tt) (λ _. tt)))
+      (λ _. cond-both (leb write-bit (s .arrives (L .home p))) (R3) (R4) (Within C) (λ _. tt) (λ _. tt)))
   within-all p R4 e = within-row p (cond (eqb (s .tails (T .element p 1)) 0) R5 R3)
       (cond-both (eqb (s .tails (T .element p 1)) 0) (R5) (R3) (Within C) (λ _. tt) (λ _. tt))
   within-all p R5 e = within-row p (R6 (s .departs (L .home p))) (tt)

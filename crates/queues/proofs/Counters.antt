@@ -124,7 +124,7 @@ module _ (P C limit : ℕ) (s : Tally) (v : Counted P C limit s) (p c : ℕ) (on
         seen = λ q k n e. seen′ k q n e;
       }
 
--- row R1 when it enters: the old word was below TR, so no bit stands
+-- row R1 when it enters: the old word was below the reader threshold, so no bit stands
 pub record Enters (limit : ℕ) (s : Tally) (p c : ℕ) (load : ℕ → Load) (arrives : ℕ → ℕ) : Type 0 where
   -- one load and one counter change
   pub shift : Shift s p c load arrives (s .departs)

@@ -8,6 +8,7 @@ use mathlib.Core.Bool.{cond}
 use lib.Dec.{leb}
 use native.Mathlib.Omega.{arith}
 use Rattle.std.proofs.shelf.Ways.{tells}
+use Rattle.places.specs.Words.{most-hand-overs}
 use Rattle.queues.specs.Machine.{Tree, Lawful, On, Phase, out, fresh, clean, ready, link, wait, hold, give, InRange}
 use Rattle.queues.specs.Machine.{State, Inv, Linking}
 use Rattle.queues.specs.Counters.{total}
@@ -69,13 +70,13 @@ unfolding upd
 row-other L s p f q a = grind (arith, tells)
 
 -- a step is accepted where the invariant holds
-accepts : (L : Plan) (s : Lock) (p : ℕ) (f : Place) → ((q j : ℕ) → L .hand-over-limit q j ≤ 1000)
+accepts : (L : Plan) (s : Lock) (p : ℕ) (f : Place) → ((q j : ℕ) → L .hand-over-limit q j ≤ most-hand-overs)
     → InRange (L .tree .own-level p) (phase-of f (s .statuses (L .tree .node p (status-level f))))
     → Sound L (s .statuses) p f → Within (L .counters) f → Aims (L .tree) f → Busy f → Accepts L s p f
 accepts L s p f c r so w a b = grind (arith, tells)
 
 -- what a rank is about to link itself to is the node of a rank
-link-aims : (T : Tree) → Lawful T → (s : State) → Inv T s → (p i t : ℕ) → s .phases p ≡ link i t → Node T t
+pub link-aims : (T : Tree) → Lawful T → (s : State) → Inv T s → (p i t : ℕ) → s .phases p ≡ link i t → Node T t
 link-aims T G s v p i t e =
     let l : Linking T s p i t = asked T s v p (link i t) e in
     let o : Occupant T s (T .element p i) (l .spot .turn) =
@@ -83,7 +84,7 @@ link-aims T G s v p i t e =
     record { rank = o .rank; level = o .level; on = o .on; is = l .target ∙ o .is }
 
 -- and so is what a rank hands over to
-give-aims : (T : Tree) → Lawful T → (s : State) → Inv T s → (p h i t : ℕ) → s .phases p ≡ give h i t → Node T t
+pub give-aims : (T : Tree) → Lawful T → (s : State) → Inv T s → (p h i t : ℕ) → s .phases p ≡ give h i t → Node T t
 give-aims T G s v p h i t e =
     let n : Successor T s p i t = successor T G s v p h i t e in
     record { rank = n .rank; level = i; on = n .on; is = n .target }

@@ -6,8 +6,9 @@ use mathlib.Core.Path.{_≡_, refl, sym, _∙_, ap, subst}
 use mathlib.Core.Logic.{_⊎_, inl, inr, _≢_}
 use native.Mathlib.Omega.{arith}
 use Rattle.std.proofs.shelf.Tests.{cases-eq, cases-order}
-use Rattle.queues.specs.Machine.{Tree, Lawful, On, Phase, out, fresh, clean, ready, link, wait, hold, give}
-use Rattle.queues.specs.Machine.{hold-level, InRange, Waits, Calm, State, Inv, Holder, Member, Heads, Behind, Asks}
+use Rattle.queues.specs.Machine.{holds-from, Tree, Lawful, On, Phase, out, fresh, clean, ready, link, wait, hold}
+use Rattle.queues.specs.Machine.{give, hold-level, InRange, Waits, Calm, State, Inv, Holder, Member, Heads, Behind}
+use Rattle.queues.specs.Machine.{Asks}
 use Rattle.queues.proofs.OneHolder.{range-of, one-holder, one-owner, waits-level, waits-on, Successor}
 use Rattle.queues.proofs.Cases.{split, split₂, calm-asks}
 
@@ -57,11 +58,11 @@ module _ (T : Tree) (G : Lawful T) (s : State) (v : Inv T s) (p h i t : ℕ) (e 
   on-p = omega (arith, rg)
 
   -- the giver held from h down
-  level-p : hold-level (T .own-level p) (s .phases p) ≡ h
+  level-p : holds-from T s p ≡ h
   level-p = ap (hold-level (T .own-level p)) e
 
   -- the taker held all below i
-  level-r : hold-level (T .own-level r) (s .phases r) ≡ suc i
+  level-r : holds-from T s r ≡ suc i
   level-r = ap (hold-level (T .own-level r)) (n .waits)
 
   -- now it holds from h down
@@ -69,8 +70,7 @@ module _ (T : Tree) (G : Lawful T) (s : State) (v : Inv T s) (p h i t : ℕ) (e 
   level-r′ = ap (hold-level (T .own-level r)) (c .taker)
 
   -- nobody else holds more or less
-  level-o : (q : ℕ) → q ≢ p → q ≢ r
-      → hold-level (T .own-level q) (phases q) ≡ hold-level (T .own-level q) (s .phases q)
+  level-o : (q : ℕ) → q ≢ p → q ≢ r → hold-level (T .own-level q) (phases q) ≡ holds-from T s q
   level-o q a b = ap (hold-level (T .own-level q)) (c .others q a b)
 
   -- an element of another level is another element
@@ -158,7 +158,7 @@ module _ (T : Tree) (G : Lawful T) (s : State) (v : Inv T s) (p h i t : ℕ) (e 
   heads-o : (q : ℕ) → q ≢ p → q ≢ r → (j : ℕ) → On (T .own-level q) j → hold-level (T .own-level q) (phases q) ≤ j
       → Heads T s′ q j
   heads-o q a b j on l =
-      let l′ : hold-level (T .own-level q) (s .phases q) ≤ j = omega (arith, level-o q a b) in
+      let l′ : holds-from T s q ≤ j = omega (arith, level-o q a b) in
       kept q j
       (λ w.
       let z : j ≡ i = G .level-of q p j i on on-p w in
@@ -223,7 +223,7 @@ module _ (T : Tree) (G : Lawful T) (s : State) (v : Inv T s) (p h i t : ℕ) (e 
   holder-o k ne o = split₂ p r
       (λ q.
       (j : ℕ) → On (T .own-level q) j → T .element q j ≡ k → s .node-at k (s .head-turn k) ≡ T .node q j
-      → hold-level (T .own-level q) (s .phases q) ≤ j → Holder T s′ k)
+      → holds-from T s q ≤ j → Holder T s′ k)
       from-p
       from-r
       from-o
@@ -238,7 +238,7 @@ module _ (T : Tree) (G : Lawful T) (s : State) (v : Inv T s) (p h i t : ℕ) (e 
       head-k = c .stay k ne
 
       from-p : (j : ℕ) → On (T .own-level p) j → T .element p j ≡ k → s .node-at k (s .head-turn k) ≡ T .node p j
-          → hold-level (T .own-level p) (s .phases p) ≤ j → Holder T s′ k
+          → holds-from T s p ≤ j → Holder T s′ k
       from-p j on q is l = by (cases-order j i)
         where
           by : (j ≡ i) ⊎ ((j < i) ⊎ (i < j)) → Holder T s′ k
@@ -257,7 +257,7 @@ module _ (T : Tree) (G : Lawful T) (s : State) (v : Inv T s) (p h i t : ℕ) (e 
               record { rank = p; level = j; on = on; queue = q; is = rw head-k is; holds = omega (arith, c .giver) }
 
       from-r : (j : ℕ) → On (T .own-level r) j → T .element r j ≡ k → s .node-at k (s .head-turn k) ≡ T .node r j
-          → hold-level (T .own-level r) (s .phases r) ≤ j → Holder T s′ k
+          → holds-from T s r ≤ j → Holder T s′ k
       from-r j on q is l =
           record {
             rank = r;
@@ -269,7 +269,7 @@ module _ (T : Tree) (G : Lawful T) (s : State) (v : Inv T s) (p h i t : ℕ) (e 
           }
 
       from-o : (x : ℕ) → x ≢ p → x ≢ r → (j : ℕ) → On (T .own-level x) j → T .element x j ≡ k
-          → s .node-at k (s .head-turn k) ≡ T .node x j → hold-level (T .own-level x) (s .phases x) ≤ j → Holder T s′ k
+          → s .node-at k (s .head-turn k) ≡ T .node x j → holds-from T s x ≤ j → Holder T s′ k
       from-o x a b j on q is l =
           record { rank = x; level = j; on = on; queue = q; is = rw head-k is; holds = omega (arith, level-o x a b) }
 

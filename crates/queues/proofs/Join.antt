@@ -5,8 +5,8 @@ use mathlib.Core.Path.{_≡_, refl, sym, _∙_, ap, subst}
 use mathlib.Core.Logic.{_⊎_, inl, inr, _≢_, ⊎-elim}
 use native.Mathlib.Omega.{arith}
 use Rattle.std.proofs.shelf.Tests.{cases-eq, cases-lt}
-use Rattle.queues.specs.Machine.{Tree, Lawful, On, Phase, out, fresh, clean, ready, link, wait, hold, give}
-use Rattle.queues.specs.Machine.{hold-level, InRange, Waits, State, Inv, Holder, Member, Heads, Behind, Asks}
+use Rattle.queues.specs.Machine.{holds-from, Tree, Lawful, On, Phase, out, fresh, clean, ready, link, wait, hold}
+use Rattle.queues.specs.Machine.{give, hold-level, InRange, Waits, State, Inv, Holder, Member, Heads, Behind, Asks}
 use Rattle.queues.proofs.OneHolder.{range-of, apart, asked, Occupant, occupant}
 use Rattle.queues.proofs.Cases.{split}
 
@@ -26,14 +26,22 @@ joined s phases tails at next-turn =
 pub record Joins (T : Tree) (s : State) (p i : ℕ) (phases : ℕ → Phase) (tails : ℕ → ℕ) (at : ℕ → ℕ → ℕ)
     (next-turn : ℕ → ℕ) : Type 0
   where
+    -- in an empty queue the rank holds; else it is about to link itself to the old tail
     pub after : ((s .tails (T .element p i) ≡ 0) × (phases p ≡ hold i))
         ⊎ ((s .tails (T .element p i) ≢ 0) × (phases p ≡ link i (s .tails (T .element p i))))
+    -- no other phase changes
     pub others : (q : ℕ) → q ≢ p → phases q ≡ s .phases q
+    -- TAIL is the own node
     pub here : tails (T .element p i) ≡ T .node p i
+    -- and no other changes
     pub other-tails : (k : ℕ) → k ≢ T .element p i → tails k ≡ s .tails k
+    -- the old turns stay
     pub old : (k a : ℕ) → a < s .next-turn k → at k a ≡ s .node-at k a
+    -- the new one is the own node
     pub new : at (T .element p i) (s .next-turn (T .element p i)) ≡ T .node p i
+    -- this queue has one more turn
     pub more : next-turn (T .element p i) ≡ suc (s .next-turn (T .element p i))
+    -- and no other has
     pub stay : (k : ℕ) → k ≢ T .element p i → next-turn k ≡ s .next-turn k
 
 module _ (T : Tree) (G : Lawful T) (s : State) (v : Inv T s) (p i : ℕ) (e : s .phases p ≡ ready i) (phases : ℕ → Phase)
@@ -47,7 +55,7 @@ module _ (T : Tree) (G : Lawful T) (s : State) (v : Inv T s) (p i : ℕ) (e : s 
   on-p : On (T .own-level p) i
   on-p = range-of (s .phases p) (T .own-level p) (v .range p) (ready i) e
 
-  level-p : hold-level (T .own-level p) (s .phases p) ≡ suc i
+  level-p : holds-from T s p ≡ suc i
   level-p = ap (hold-level (T .own-level p)) e
 
   -- who is about to join does not wait yet
@@ -84,12 +92,13 @@ module _ (T : Tree) (G : Lawful T) (s : State) (v : Inv T s) (p i : ℕ) (e : s 
   turns : (k : ℕ) → (a : ℕ) → a < next-turn k → (a < s .next-turn k) ⊎ ((k ≡ K) × (a ≡ s .next-turn k))
   turns = split K
       (λ k. (a : ℕ) → a < next-turn k → (a < s .next-turn k) ⊎ ((k ≡ K) × (a ≡ s .next-turn k)))
-      (λ a l.
-      ⊎-elim
-      (λ (z : a < s .next-turn K). inl z)
-      (λ (z : s .next-turn K ≤ a). inr (refl, omega (arith, c .more)))
-      (cases-lt a (s .next-turn K)))
+      (λ a l. here a l (cases-lt a (s .next-turn K)))
       (λ k ne a l. inl (omega (arith, c .stay k ne)))
+    where
+      here : (a : ℕ) → a < next-turn K → (a < s .next-turn K) ⊎ (s .next-turn K ≤ a)
+          → (a < s .next-turn K) ⊎ ((K ≡ K) × (a ≡ s .next-turn K))
+      here a l (inl z) = inl z
+      here a l (inr z) = inr (refl, omega (arith, c .more))
 
   -- the new turn is the own node
   new-at : (k a : ℕ) → k ≡ K → a ≡ s .next-turn k → at k a ≡ T .node p i
@@ -156,14 +165,14 @@ module _ (T : Tree) (G : Lawful T) (s : State) (v : Inv T s) (p i : ℕ) (e : s 
           grown p j (v .heads p j on (omega (arith, level-p)))
 
   -- nobody holds less
-  levels′ : (q : ℕ) → hold-level (T .own-level q) (phases q) ≤ hold-level (T .own-level q) (s .phases q)
+  levels′ : (q : ℕ) → hold-level (T .own-level q) (phases q) ≤ holds-from T s q
   levels′ = split p
-      (λ q. hold-level (T .own-level q) (phases q) ≤ hold-level (T .own-level q) (s .phases q))
+      (λ q. hold-level (T .own-level q) (phases q) ≤ holds-from T s q)
       (by (c .after))
       (λ q a. omega (arith, ap (hold-level (T .own-level q)) (c .others q a)))
     where
       by : ((s .tails K ≡ 0) × (phases p ≡ hold i)) ⊎ ((s .tails K ≢ 0) × (phases p ≡ link i (s .tails K)))
-          → hold-level (T .own-level p) (phases p) ≤ hold-level (T .own-level p) (s .phases p)
+          → hold-level (T .own-level p) (phases p) ≤ holds-from T s p
       by (inl x) = omega (arith, level-p, ap (hold-level (T .own-level p)) (x .1))
       by (inr x) = omega (arith, level-p, ap (hold-level (T .own-level p)) (x .1))
 

@@ -5,8 +5,8 @@ use Prim.Native.Nat.{ℕ, suc, _≤_, _<_}
 use mathlib.Core.Path.{_≡_, refl, sym, _∙_, ap, subst}
 use mathlib.Core.Logic.{_≢_}
 use native.Mathlib.Omega.{arith}
-use Rattle.queues.specs.Machine.{Tree, Lawful, On, Phase, out, fresh, clean, ready, link, wait, hold, give}
-use Rattle.queues.specs.Machine.{hold-level, InRange, Waits, State, Inv, Behind, Linking, Asks}
+use Rattle.queues.specs.Machine.{holds-from, Tree, Lawful, On, Phase, out, fresh, clean, ready, link, wait, hold}
+use Rattle.queues.specs.Machine.{give, hold-level, InRange, Waits, State, Inv, Behind, Linking, Asks}
 use Rattle.queues.proofs.OneHolder.{range-of, one-owner, apart, asked, one-turn}
 use Rattle.queues.proofs.Cases.{split}
 use Rattle.queues.proofs.OwnMoves.{prepared}
@@ -35,9 +35,9 @@ module _ (T : Tree) (G : Lawful T) (s : State) (v : Inv T s) (p i t : ℕ) (e : 
   was = asked T s v p (link i t) e
 
   -- no hold level changes
-  levels′ : (q : ℕ) → hold-level (T .own-level q) (phases q) ≡ hold-level (T .own-level q) (s .phases q)
+  levels′ : (q : ℕ) → hold-level (T .own-level q) (phases q) ≡ holds-from T s q
   levels′ = split p
-      (λ q. hold-level (T .own-level q) (phases q) ≡ hold-level (T .own-level q) (s .phases q))
+      (λ q. hold-level (T .own-level q) (phases q) ≡ holds-from T s q)
       (ap (hold-level (T .own-level p)) (c .after) ∙ sym (ap (hold-level (T .own-level p)) e))
       (λ q a. ap (hold-level (T .own-level q)) (c .others q a))
 
@@ -55,8 +55,8 @@ module _ (T : Tree) (G : Lawful T) (s : State) (v : Inv T s) (p i t : ℕ) (e : 
   inner k a z d = let h : suc (was .spot .turn) < s .next-turn k = rw (d .0) at (was .spot .high) in omega arith
 
   -- nor the one before another rank's
-  other : (q j : ℕ) → q ≢ p → On (T .own-level q) j → hold-level (T .own-level q) (s .phases q) ≡ suc j
-      → (b : Behind T s q j) → (T .element p i ≡ T .element q j) × (was .spot .turn ≡ b .turn) → ⊥
+  other : (q j : ℕ) → q ≢ p → On (T .own-level q) j → holds-from T s q ≡ suc j → (b : Behind T s q j)
+      → (T .element p i ≡ T .element q j) × (was .spot .turn ≡ b .turn) → ⊥
   other q j a on l b d = a
       (one-owner T G s v q p j i on on-p (omega arith) (omega (arith, ap (hold-level (T .own-level p)) e))
       (sym (b .is) ∙ (rw (← (d .0), ← (d .1)) (was .spot .is))) .0)
@@ -66,8 +66,8 @@ module _ (T : Tree) (G : Lawful T) (s : State) (v : Inv T s) (p i t : ℕ) (e : 
   behind q j b = record { turn = b .turn; low = b .low; high = b .high; is = b .is }
 
   -- a node that is not queued is not written
-  unqueued : (q j : ℕ) → On (T .own-level q) j → hold-level (T .own-level q) (s .phases q) ≡ suc j
-      → (Waits (s .phases q) j → ⊥) → nexts (T .node q j) ≡ s .nexts (T .node q j)
+  unqueued : (q j : ℕ) → On (T .own-level q) j → holds-from T s q ≡ suc j → (Waits (s .phases q) j → ⊥)
+      → nexts (T .node q j) ≡ s .nexts (T .node q j)
   unqueued q j on l w = c .words (T .node q j)
       (λ z.
       apart T G s v q j on l w (T .element p i) (was .spot .turn) (was .spot .low) (omega (arith, was .spot .high))

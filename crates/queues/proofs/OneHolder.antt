@@ -9,8 +9,8 @@ use mathlib.Core.Logic.{_⊎_, inl, inr, _≢_, ⊎-elim}
 use native.Mathlib.Omega.{arith}
 use Rattle.std.proofs.shelf.Ways.{tells}
 use Rattle.std.proofs.shelf.Tests.{cases-eq}
-use Rattle.queues.specs.Machine.{Tree, Lawful, On, Phase, link, wait, give, hold-level, InRange, Waits, State, Inv}
-use Rattle.queues.specs.Machine.{Holder, Member, Heads, Behind, Asks}
+use Rattle.queues.specs.Machine.{holds-from, Tree, Lawful, On, Phase, link, wait, give, hold-level, InRange, Waits}
+use Rattle.queues.specs.Machine.{State, Inv, Holder, Member, Heads, Behind, Asks}
 
 -- the levels of a phase that is known are in range
 pub range-of : (f : Phase) (top : ℕ) → InRange top f → (g : Phase) → f ≡ g → InRange top g
@@ -23,9 +23,8 @@ pub record Occupant (T : Tree) (s : State) (k a : ℕ) : Type 0 where
   pub on : On (T .own-level rank) level
   pub queue : T .element rank level ≡ k
   pub is : s .node-at k a ≡ T .node rank level
-  pub near : hold-level (T .own-level rank) (s .phases rank) ≤ suc level
-  pub role : ((a ≡ s .head-turn k) × (hold-level (T .own-level rank) (s .phases rank) ≤ level))
-      ⊎ Waits (s .phases rank) level
+  pub near : holds-from T s rank ≤ suc level
+  pub role : ((a ≡ s .head-turn k) × (holds-from T s rank ≤ level)) ⊎ Waits (s .phases rank) level
 
 -- who stands behind rank p at level i, and that t is its node
 pub record Successor (T : Tree) (s : State) (p i t : ℕ) : Type 0 where
@@ -55,16 +54,14 @@ waits-cases f i w = grind (arith, tells)
 
 module _ (T : Tree) (G : Lawful T) (s : State) (v : Inv T s) where
   -- two ranks that hold one element have one node there
-  pub one-head : (p r i : ℕ) → On (T .own-level p) i → On (T .own-level r) i
-      → hold-level (T .own-level p) (s .phases p) ≤ i → hold-level (T .own-level r) (s .phases r) ≤ i
-      → T .element p i ≡ T .element r i → T .node p i ≡ T .node r i
+  pub one-head : (p r i : ℕ) → On (T .own-level p) i → On (T .own-level r) i → holds-from T s p ≤ i
+      → holds-from T s r ≤ i → T .element p i ≡ T .element r i → T .node p i ≡ T .node r i
   one-head p r i on on′ h h′ e =
       sym (v .heads p i on h .is) ∙ (ap (λ k. s .node-at k (s .head-turn k)) e ∙ v .heads r i on′ h′ .is)
 
   -- two ranks that hold one element are one rank: down to the leaf, d levels below
   one-holder-by : (d p r i : ℕ) → i + d ≡ T .own-level p → On (T .own-level p) i → On (T .own-level r) i
-      → hold-level (T .own-level p) (s .phases p) ≤ i → hold-level (T .own-level r) (s .phases r) ≤ i
-      → T .element p i ≡ T .element r i → p ≡ r
+      → holds-from T s p ≤ i → holds-from T s r ≤ i → T .element p i ≡ T .element r i → p ≡ r
   one-holder-by zero p r i room on on′ h h′ e = ⊎-elim
       (λ (q : p ≡ r). q)
       (λ (q : (i < T .own-level p) × (i < T .own-level r) × (T .element p (suc i) ≡ T .element r (suc i))).
@@ -77,15 +74,13 @@ module _ (T : Tree) (G : Lawful T) (s : State) (v : Inv T s) where
       (G .below p r i on on′ (one-head p r i on on′ h h′ e))
 
   -- two ranks that hold one element are one rank
-  pub one-holder : (p r i : ℕ) → On (T .own-level p) i → On (T .own-level r) i
-      → hold-level (T .own-level p) (s .phases p) ≤ i → hold-level (T .own-level r) (s .phases r) ≤ i
-      → T .element p i ≡ T .element r i → p ≡ r
+  pub one-holder : (p r i : ℕ) → On (T .own-level p) i → On (T .own-level r) i → holds-from T s p ≤ i
+      → holds-from T s r ≤ i → T .element p i ≡ T .element r i → p ≡ r
   one-holder p r i on on′ h h′ e = one-holder-by (T .own-level p - i) p r i (omega arith) on on′ h h′ e
 
   -- a node is used by one rank: two ranks that hold all below it are one
-  pub one-owner : (p r i j : ℕ) → On (T .own-level p) i → On (T .own-level r) j
-      → hold-level (T .own-level p) (s .phases p) ≤ suc i → hold-level (T .own-level r) (s .phases r) ≤ suc j
-      → T .node p i ≡ T .node r j → (p ≡ r) × (i ≡ j)
+  pub one-owner : (p r i j : ℕ) → On (T .own-level p) i → On (T .own-level r) j → holds-from T s p ≤ suc i
+      → holds-from T s r ≤ suc j → T .node p i ≡ T .node r j → (p ≡ r) × (i ≡ j)
   one-owner p r i j on on′ h h′ e =
       let same : i ≡ j = G .queue-of p r i j on on′ e .0 in
       let on″ : On (T .own-level r) i = omega arith in (
@@ -98,7 +93,7 @@ module _ (T : Tree) (G : Lawful T) (s : State) (v : Inv T s) where
       )
 
   -- who waits at a level holds all below it
-  pub waits-level : (p i : ℕ) → Waits (s .phases p) i → hold-level (T .own-level p) (s .phases p) ≡ suc i
+  pub waits-level : (p i : ℕ) → Waits (s .phases p) i → holds-from T s p ≡ suc i
   waits-level p i w = level-waits (T .own-level p) (s .phases p) i w
 
   -- and the level is one of its own
@@ -139,46 +134,51 @@ module _ (T : Tree) (G : Lawful T) (s : State) (v : Inv T s) where
           }
 
   -- the node of a rank that has not joined stands in no queue
-  pub apart : (p i : ℕ) → On (T .own-level p) i → hold-level (T .own-level p) (s .phases p) ≡ suc i
-      → (Waits (s .phases p) i → ⊥) → (k a : ℕ) → s .head-turn k ≤ a → a < s .next-turn k
-      → s .node-at k a ≢ T .node p i
-  apart p i on h w k a l l′ e =
-      let o : Occupant T s k a = occupant k a l l′ in
-      let u : (o .rank ≡ p) × (o .level ≡ i) =
-      one-owner (o .rank) p (o .level) i (o .on) on (o .near) (omega arith) (sym (o .is) ∙ e) in
-      ⊎-elim
-      (λ (r : (a ≡ s .head-turn k) × (hold-level (T .own-level (o .rank)) (s .phases (o .rank)) ≤ o .level)).
-      let q : hold-level (T .own-level (o .rank)) (s .phases (o .rank)) ≡ hold-level (T .own-level p) (s .phases p) =
-      ap (λ x. hold-level (T .own-level x) (s .phases x)) (u .0) in
-      omega arith)
-      (λ (r : Waits (s .phases (o .rank)) (o .level)). w (subst₂ (λ x y. Waits (s .phases x) y) (u .0) (u .1) r))
-      (o .role)
+  pub apart : (p i : ℕ) → On (T .own-level p) i → holds-from T s p ≡ suc i → (Waits (s .phases p) i → ⊥) → (k a : ℕ)
+      → s .head-turn k ≤ a → a < s .next-turn k → s .node-at k a ≢ T .node p i
+  apart p i on h w k a l l′ e = by (o .role)
+    where
+      o : Occupant T s k a
+      o = occupant k a l l′
+
+      same : (o .rank ≡ p) × (o .level ≡ i)
+      same = one-owner (o .rank) p (o .level) i (o .on) on (o .near) (omega arith) (sym (o .is) ∙ e)
+
+      holds : holds-from T s (o .rank) ≡ holds-from T s p
+      holds = ap (λ x. holds-from T s x) (same .0)
+
+      by : ((a ≡ s .head-turn k) × (holds-from T s (o .rank) ≤ o .level)) ⊎ Waits (s .phases (o .rank)) (o .level) → ⊥
+      by (inl r) = omega (arith, holds, same)
+      by (inr r) = w (subst₂ (λ x y. Waits (s .phases x) y) (same .0) (same .1) r)
 
   -- the turn of a rank that stands behind another is the only one with its node
   pub turn-is : (k a p i : ℕ) → T .element p i ≡ k → s .head-turn k ≤ a → suc a < s .next-turn k
       → s .node-at k (suc a) ≡ T .node p i → (b : Behind T s p i) → b .turn ≡ a
-  turn-is k a p i e l h is b =
-      let q : suc (b .turn) ≡ suc a =
-      v .once k (suc (b .turn)) (suc a) (rw (← e) (omega arith)) (rw (← e) (b .high)) (omega arith) h
-      (rw (← e) (b .is) ∙ sym is) in
-      omega arith
+  turn-is k a p i e l h is b = omega (arith, one)
+    where
+      one : suc (b .turn) ≡ suc a
+      one = v .once k (suc (b .turn)) (suc a) (rw (← e) (omega arith)) (rw (← e) (b .high)) (omega arith) h
+          (rw (← e) (b .is) ∙ sym is)
 
   -- who stands behind a rank that is about to hand over
   pub successor : (p h i t : ℕ) → s .phases p ≡ give h i t → Successor T s p i t
-  successor p h i t e =
-      let rg = range-of (s .phases p) (T .own-level p) (v .range p) (give h i t) e in
-      let on : On (T .own-level p) i = omega arith in
-      let k = T .element p i in
-      let lv : hold-level (T .own-level p) (s .phases p) ≡ h = ap (hold-level (T .own-level p)) e in
-      let hd : Heads T s p i = v .heads p i on (omega arith) in
-      let g : (t ≡ s .nexts (T .node p i)) × (t ≢ 0) = asked T s v p (give h i t) e in
-      ⊎-elim
-      (λ (z : suc (s .head-turn k) ≡ s .next-turn k).
-      absurd (g .1 (g .0 ∙ (ap (s .nexts) (sym (hd .is)) ∙ v .ends k (s .head-turn k) (omega arith) z))))
-      (λ (z : suc (s .head-turn k) ≡ s .next-turn k → ⊥).
-      found hd on (omega arith) (v .member k (s .head-turn k) (omega arith) (omega arith)))
-      (cases-eq (suc (s .head-turn k)) (s .next-turn k))
+  successor p h i t e = someone (cases-eq (suc (s .head-turn k)) (s .next-turn k))
     where
+      k : ℕ
+      k = T .element p i
+
+      rg : InRange (T .own-level p) (give h i t)
+      rg = range-of (s .phases p) (T .own-level p) (v .range p) (give h i t) e
+
+      on-p : On (T .own-level p) i
+      on-p = omega (arith, rg)
+
+      head-p : Heads T s p i
+      head-p = v .heads p i on-p (omega (arith, rg, ap (hold-level (T .own-level p)) e))
+
+      has-read : (t ≡ s .nexts (T .node p i)) × (t ≢ 0)
+      has-read = asked T s v p (give h i t) e
+
       found : Heads T s p i → On (T .own-level p) i
           → suc (s .head-turn (T .element p i)) < s .next-turn (T .element p i)
           → Member T s (T .element p i) (suc (s .head-turn (T .element p i))) → Successor T s p i t
@@ -199,9 +199,6 @@ module _ (T : Tree) (G : Lawful T) (s : State) (v : Inv T s) where
           is′ : s .node-at (T .element p i) (suc (s .head-turn (T .element p i))) ≡ T .node r i
           is′ = m .is ∙ ap (T .node r) same
 
-          g : (t ≡ s .nexts (T .node p i)) × (t ≢ 0)
-          g = asked T s v p (give h i t) e
-
           here : (b : Behind T s r i) → s .node-at (T .element r i) (b .turn) ≡ T .node p i
           here b = rw
               (queue′, turn-is (T .element p i) (s .head-turn (T .element p i)) r i queue′ (omega arith) more is′ b)
@@ -217,11 +214,21 @@ module _ (T : Tree) (G : Lawful T) (s : State) (v : Inv T s) where
                 waits = w;
                 more = more;
                 is = is′;
-                target = g .0 ∙ (ap (s .nexts) (sym (here (ww .spot))) ∙ ww .linked);
+                target = has-read .0 ∙ (ap (s .nexts) (sym (here (ww .spot))) ∙ ww .linked);
               }
           by (inr w) =
               let ll = asked T s v r (link i (w .0)) (w .1) in
-              absurd (g .1 (g .0 ∙ (ap (s .nexts) (sym (here (ll .spot))) ∙ ll .none)))
+              absurd (has-read .1 (has-read .0 ∙ (ap (s .nexts) (sym (here (ll .spot))) ∙ ll .none)))
+
+      -- the head is not the last: NEXT of the last node is 0, and t is not
+      someone : (suc (s .head-turn k) ≡ s .next-turn k) ⊎ (suc (s .head-turn k) ≡ s .next-turn k → ⊥)
+          → Successor T s p i t
+      someone (inl z) =
+          let end = v .ends k (s .head-turn k) (omega arith) z in
+          absurd (has-read .1 (has-read .0 ∙ (ap (s .nexts) (sym (head-p .is)) ∙ end)))
+      someone (inr z) =
+          let more : suc (s .head-turn k) < s .next-turn k = omega (arith, head-p .some) in
+          found head-p on-p more (v .member k (s .head-turn k) (omega arith) more)
 
   -- a node stands in one queue, at one turn
   pub one-turn : (k m a b : ℕ) → s .head-turn k ≤ a → a < s .next-turn k → s .head-turn m ≤ b → b < s .next-turn m

@@ -6,8 +6,8 @@ use Prim.Native.Nat.{ℕ, suc, _≤_, _<_}
 use mathlib.Core.Path.{_≡_, refl, sym, _∙_, ap}
 use mathlib.Core.Logic.{_⊎_, _≢_, ⊎-elim}
 use native.Mathlib.Omega.{arith}
-use Rattle.queues.specs.Machine.{Tree, Lawful, On, Phase, out, fresh, clean, ready, link, wait, hold, give}
-use Rattle.queues.specs.Machine.{hold-level, InRange, Waits, State, Inv, Behind, Asks}
+use Rattle.queues.specs.Machine.{holds-from, Tree, Lawful, On, Phase, out, fresh, clean, ready, link, wait, hold}
+use Rattle.queues.specs.Machine.{give, hold-level, InRange, Waits, State, Inv, Behind, Asks}
 use Rattle.queues.proofs.OneHolder.{one-owner, apart}
 use Rattle.queues.proofs.Cases.{split}
 
@@ -27,13 +27,13 @@ prepared s phases nexts =
 pub record Mine (T : Tree) (s : State) (p y : ℕ) : Type 0 where
   pub level : ℕ
   pub on : On (T .own-level p) level
-  pub near : hold-level (T .own-level p) (s .phases p) ≡ suc level
+  pub near : holds-from T s p ≡ suc level
   pub is : y ≡ T .node p level
 
 -- what is asked of such a move
 pub record Prepares (T : Tree) (s : State) (p : ℕ) (phases : ℕ → Phase) (nexts : ℕ → ℕ) : Type 0 where
   -- the rank holds what it held
-  pub levels : hold-level (T .own-level p) (phases p) ≡ hold-level (T .own-level p) (s .phases p)
+  pub levels : hold-level (T .own-level p) (phases p) ≡ holds-from T s p
   -- at a level of its own
   pub in-range : InRange (T .own-level p) (phases p)
   -- it does not wait
@@ -51,9 +51,9 @@ module _ (T : Tree) (G : Lawful T) (s : State) (v : Inv T s) (p : ℕ) (phases :
   s′ = prepared s phases nexts
 
   -- no hold level changes
-  levels′ : (q : ℕ) → hold-level (T .own-level q) (phases q) ≡ hold-level (T .own-level q) (s .phases q)
+  levels′ : (q : ℕ) → hold-level (T .own-level q) (phases q) ≡ holds-from T s q
   levels′ = split p
-      (λ q. hold-level (T .own-level q) (phases q) ≡ hold-level (T .own-level q) (s .phases q))
+      (λ q. hold-level (T .own-level q) (phases q) ≡ holds-from T s q)
       (c .levels)
       (λ q a. ap (hold-level (T .own-level q)) (c .others q a))
 
@@ -66,7 +66,7 @@ module _ (T : Tree) (G : Lawful T) (s : State) (v : Inv T s) (p : ℕ) (phases :
       (c .words (s .node-at k a))
 
   -- no node of another rank is written
-  foreign : (q j : ℕ) → q ≢ p → On (T .own-level q) j → hold-level (T .own-level q) (s .phases q) ≤ suc j
+  foreign : (q j : ℕ) → q ≢ p → On (T .own-level q) j → holds-from T s q ≤ suc j
       → nexts (T .node q j) ≡ s .nexts (T .node q j)
   foreign q j ne on l = ⊎-elim
       (λ (z : nexts (T .node q j) ≡ s .nexts (T .node q j)). z)

@@ -8,6 +8,7 @@ use lib.Dec.{eqb, leb}
 use native.Mathlib.Omega.{arith}
 use Rattle.std.proofs.shelf.Ways.{tells}
 use Rattle.std.proofs.shelf.Tests.{cases-eq, eq-eqb, ne-eqb, le-leb, lt-leb}
+use Rattle.places.specs.Words.{most-hand-overs}
 use Rattle.queues.specs.Machine.{On, wait, hold, hold-level, InRange}
 use Rattle.queues.specs.Table.{Place, Idle, W1, W2, W3, W4, W5, W6, W7, W8, W9, U1, U2, U3, U4, U5, U6, U7, U8, U9}
 use Rattle.queues.specs.Table.{U10, R1, R2, R3, R4, R5, R6, R7, Writer, Reader, WAIT, told-status, Plan, upd}
@@ -32,15 +33,15 @@ pub w5-wait : (i w : ℕ) → w ≡ WAIT → phase-of (W5 i) w ≡ wait i
 w5-wait i w e = rw (eq-eqb w WAIT e)
 
 -- with a count it holds the whole machine
-pub w5-count : (i w : ℕ) → w ≤ 1000 → phase-of (W5 i) w ≡ hold 1
-w5-count i w e = rw (ne-eqb w WAIT (omega arith), le-leb w 1000 e)
+pub w5-count : (i w : ℕ) → w ≤ most-hand-overs → phase-of (W5 i) w ≡ hold 1
+w5-count i w e = rw (ne-eqb w WAIT (omega arith), le-leb w most-hand-overs e)
 
 -- with anything else it holds this level
-pub w5-told : (i w : ℕ) → w ≢ WAIT → 1000 < w → phase-of (W5 i) w ≡ hold i
-w5-told i w e h = rw (ne-eqb w WAIT e, lt-leb w 1000 h)
+pub w5-told : (i w : ℕ) → w ≢ WAIT → most-hand-overs < w → phase-of (W5 i) w ≡ hold i
+w5-told i w e h = rw (ne-eqb w WAIT e, lt-leb w most-hand-overs h)
 
 -- what U9 writes is neither WAIT nor a count
-pub told-large : (i : ℕ) → (WAIT < told-status i) × (1000 < told-status i)
+pub told-large : (i : ℕ) → (WAIT < told-status i) × (most-hand-overs < told-status i)
 told-large i = ⊎-elim
     (λ (z : i ≡ 1). rw (eq-eqb i 1 z) (omega arith))
     (λ (z : i ≡ 1 → ⊥). rw (ne-eqb i 1 z) (omega arith))
@@ -54,9 +55,9 @@ w5-levels top i false false = omega arith
 
 -- at W5 a rank holds all below
 pub w5-level : (top i w : ℕ) → hold-level top (phase-of (W5 i) w) ≤ suc i
-w5-level top i w = w5-levels top i (eqb w WAIT) (leb w 1000)
+w5-level top i w = w5-levels top i (eqb w WAIT) (leb w most-hand-overs)
 
-module _ (L : Plan) (small : (q j : ℕ) → L .hand-over-limit q j ≤ 1000) (statuses st′ : ℕ → ℕ) (q : ℕ) where
+module _ (L : Plan) (small : (q j : ℕ) → L .hand-over-limit q j ≤ most-hand-overs) (statuses st′ : ℕ → ℕ) (q : ℕ) where
   -- the statuses that a rank's place speaks of are as they were
   abbrev Same : ℕ → Type 0
   Same h = (j : ℕ) → On (L .tree .own-level q) j → h ≤ suc j → st′ (L .tree .node q j) ≡ statuses (L .tree .node q j)

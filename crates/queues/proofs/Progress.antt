@@ -1,18 +1,19 @@
 -- Somebody can always move. Whoever waits, waits for an element that some rank holds; if that one waits too, it waits
 -- higher up, so the search ends at a rank that does not wait. A holder whose node is not the TAIL has a rank right
 -- behind it. And while nobody carries anything of a counter, the writer's test at W9 succeeds.
-use Prim.Native.Nat.{ℕ, zero, suc, _+_, _^_, _≤_, _<_}
+use Prim.Native.Nat.{ℕ, zero, suc, _+_, _≤_, _<_}
 use mathlib.Core.Path.{_≡_, refl, sym, _∙_, ap, subst}
 use mathlib.Core.Logic.{_⊎_, inl, inr, _≢_, ⊎-elim}
 use native.Mathlib.Omega.{arith}
 use Rattle.std.proofs.shelf.Tests.{cases-eq}
-use Rattle.queues.specs.Machine.{Tree, Lawful, On, Phase, out, fresh, clean, ready, link, wait, hold, give}
-use Rattle.queues.specs.Machine.{hold-level, InRange, Waits, State, Inv, Holder, Member, Heads, Behind}
+use Rattle.places.specs.Words.{most-hand-overs}
+use Rattle.queues.specs.Machine.{holds-from, Tree, Lawful, On, Phase, out, fresh, clean, ready, link, wait, hold}
+use Rattle.queues.specs.Machine.{give, hold-level, InRange, Waits, State, Inv, Holder, Member, Heads, Behind}
 use Rattle.queues.specs.Table.{Place, Idle, W1, W2, W3, W4, W5, W6, W7, W8, W9, U1, U2, U3, U4, U5, U6, U7, U8, U9}
 use Rattle.queues.specs.Table.{U10, R1, R2, R3, R4, R5, R6, R7, Writer, Reader, told-status, Plan, Lock}
-use Rattle.queues.specs.Counters.{total, tries, admits, clears, Tally, Counted}
+use Rattle.queues.specs.Counters.{write-bit, total, tries, admits, clears, Tally, Counted}
 use Rattle.queues.proofs.OneHolder.{asked, waits-cases, turn-is}
-use Rattle.queues.proofs.Sums.{total-same, total-zero, total-swap}
+use Rattle.queues.proofs.Sums.{total-none, total-swap}
 
 -- a phase waits for a STATUS, or does not
 pub waits-or : (f : Phase) → ((i : ℕ) × (f ≡ wait i)) ⊎ ((i : ℕ) → f ≢ wait i)
@@ -28,23 +29,31 @@ waits-or (give h j t) = inr (λ i e. absurd (subst (λ f. Waits f i) (sym e) ref
 -- a rank that holds something and does not wait
 pub record Mover (T : Tree) (s : State) : Type 0 where
   pub rank : ℕ
-  pub holds : hold-level (T .own-level rank) (s .phases rank) ≤ T .own-level rank
+  pub holds : holds-from T s rank ≤ T .own-level rank
   pub free : (i : ℕ) → s .phases rank ≢ wait i
 
 -- whoever waits, somebody holds what it waits for; who waits in turn waits higher up
 onward : (T : Tree) → Lawful T → (s : State) → Inv T s → (d i p : ℕ) → i ≤ suc d → s .phases p ≡ wait i
     → ((j q : ℕ) → j ≤ d → s .phases q ≡ wait j → Mover T s) → Mover T s
-onward T G s v d i p l e again =
-    let b : Behind T s p i = asked T s v p (wait i) e .spot in
-    let on : On (T .own-level p) i = subst (InRange (T .own-level p)) e (v .range p) in
-    let h : Holder T s (T .element p i) = v .holder (T .element p i) (omega (arith, b .low, b .high)) in
-    let same : h .level ≡ i = G .level-of (h .rank) p (h .level) i (h .on) on (h .queue) in
-    ⊎-elim
-    (λ (w : (j : ℕ) × (s .phases (h .rank) ≡ wait j)).
-    again (w .0) (h .rank) (omega (arith, h .holds, ap (hold-level (T .own-level (h .rank))) (w .1))) (w .1))
-    (λ (w : (j : ℕ) → s .phases (h .rank) ≢ wait j).
-    record { rank = h .rank; holds = omega (arith, h .holds, h .on); free = w })
-    (waits-or (s .phases (h .rank)))
+onward T G s v d i p l e again = by (waits-or (s .phases (h .rank)))
+  where
+    b : Behind T s p i
+    b = asked T s v p (wait i) e .spot
+
+    on : On (T .own-level p) i
+    on = subst (InRange (T .own-level p)) e (v .range p)
+
+    h : Holder T s (T .element p i)
+    h = v .holder (T .element p i) (omega (arith, b .low, b .high))
+
+    same : h .level ≡ i
+    same = G .level-of (h .rank) p (h .level) i (h .on) on (h .queue)
+
+    by : ((j : ℕ) × (s .phases (h .rank) ≡ wait j)) ⊎ ((j : ℕ) → s .phases (h .rank) ≢ wait j) → Mover T s
+    by (inl (j, w)) =
+        let lv = ap (hold-level (T .own-level (h .rank))) w in
+        again j (h .rank) (omega (arith, h .holds, same, lv)) w
+    by (inr w) = record { rank = h .rank; holds = omega (arith, h .holds, h .on); free = w }
 
 -- from whoever waits to a rank that holds something and does not wait
 pub mover : (T : Tree) → Lawful T → (s : State) → Inv T s → (d i p : ℕ) → i ≤ d → s .phases p ≡ wait i → Mover T s
@@ -59,11 +68,12 @@ Able L s p (W1 i) = Unit {0}
 Able L s p (W2 i) = Unit {0}
 Able L s p (W3 i) = Unit {0}
 Able L s p (W4 i t) = Unit {0}
-Able L s p (W5 i) = (s .statuses (L .tree .node p i) ≤ 1000) ⊎ (s .statuses (L .tree .node p i) ≡ told-status i)
+Able L s p (W5 i) =
+    (s .statuses (L .tree .node p i) ≤ most-hand-overs) ⊎ (s .statuses (L .tree .node p i) ≡ told-status i)
 Able L s p (W6 i) = Unit {0}
 Able L s p (W7 k) = k < L .counters
 Able L s p (W8 k) = k < L .counters
-Able L s p (W9 k n) = (k < L .counters) × (n ≡ 2 ^ 62 + s .departs k)
+Able L s p (W9 k n) = (k < L .counters) × (n ≡ write-bit + s .departs k)
 Able L s p (U1 i) = Unit {0}
 Able L s p (U2 i n) = 2 ≤ i
 Able L s p (U3 i t n) = On (L .tree .own-level p) i
@@ -146,17 +156,11 @@ follower T G s v p i e ne = found (v .member k (s .head-turn k) (omega arith) mo
 -- while no rank carries anything of the counter and its bit stands, ARRIVE is what W9 wants
 pub passes : (P C limit : ℕ) (s : Tally) → Counted P C limit s → (k : ℕ) → k < C → s .bit k ≡ 1
     → ((q : ℕ) → On P q → (tries (s .load q) k ≡ 0) × (admits (s .load q) k ≡ 0) × (clears (s .load q) k ≡ 0))
-    → s .arrives k ≡ 2 ^ 62 + s .departs k
+    → s .arrives k ≡ write-bit + s .departs k
 passes P C limit s v k l b h =
-    let x : total P (λ q. tries (s .load q) k) ≡ 0 =
-    total-same P (λ q. 0) (λ q. tries (s .load q) k) (λ q a b. h q (record { from = a; upto = b }) .0)
-    ∙ total-zero P in
-    let y : total P (λ q. admits (s .load q) k) ≡ 0 =
-    total-same P (λ q. 0) (λ q. admits (s .load q) k) (λ q a b. h q (record { from = a; upto = b }) .1)
-    ∙ total-zero P in
-    let z : total P (λ q. clears (s .load q) k) ≡ 0 =
-    total-same P (λ q. 0) (λ q. clears (s .load q) k) (λ q a b. h q (record { from = a; upto = b }) .2)
-    ∙ total-zero P in
+    let x = total-none P (λ q. tries (s .load q) k) (λ q o. h q o .0) in
+    let y = total-none P (λ q. admits (s .load q) k) (λ q o. h q o .1) in
+    let z = total-none P (λ q. clears (s .load q) k) (λ q o. h q o .2) in
     omega (arith, v .each k l .sum)
 
 -- the sum of the numbers falls where one rank's falls

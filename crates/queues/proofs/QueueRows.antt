@@ -1,7 +1,7 @@
 -- Each row, ask and leave keeps the queues and the statuses. A row is one of the five moves of OwnMoves, Join, Link,
 -- HandOver and Release, or leaves all phases alone. A STATUS is written at a node that its own rank uses, or at the
 -- successor's in a hand-over, and so changes what one rank finds.
-use Prim.Native.Nat.{ℕ, suc, pred, _+_, _-_, _^_, _≤_, _<_}
+use Prim.Native.Nat.{ℕ, suc, pred, _+_, _-_, _≤_, _<_}
 use mathlib.Core.Path.{_≡_, refl, sym, _∙_, ap, subst}
 use mathlib.Core.Logic.{_⊎_, inl, inr, _≢_, ⊎-elim}
 use mathlib.Core.Bool.{Bool, true, false, cond}
@@ -10,12 +10,14 @@ use native.Mathlib.Omega.{arith}
 use Rattle.std.proofs.shelf.Ways.{tells}
 use Rattle.std.proofs.shelf.Tests.{cases-eq, cases-order, cond-both, eqb-true, eqb-false, leb-true, leb-false}
 use Rattle.std.proofs.shelf.Tests.{ltb-true}
-use Rattle.queues.specs.Machine.{Tree, Lawful, On, Phase, out, fresh, clean, ready, link, wait, hold, give}
-use Rattle.queues.specs.Machine.{hold-level, InRange, Waits, Calm, Asks, Inv}
+use Rattle.places.specs.Words.{most-hand-overs}
+use Rattle.queues.specs.Machine.{holds-from, Tree, Lawful, On, Phase, out, fresh, clean, ready, link, wait, hold}
+use Rattle.queues.specs.Machine.{give, hold-level, InRange, Waits, Calm, Asks, Inv}
+use Rattle.queues.specs.Counters.{write-bit}
 use Rattle.queues.specs.Table.{Place, Idle, W1, W2, W3, W4, W5, W6, W7, W8, W9, U1, U2, U3, U4, U5, U6, U7, U8, U9}
-use Rattle.queues.specs.Table.{U10, R1, R2, R3, R4, R5, R6, R7, Writer, Reader, WAIT, told-status, Plan, Lock, upd}
-use Rattle.queues.specs.Table.{phase-of, status-level, phase, view, Counts, Sound, Fine, go, put-status, join, drop}
-use Rattle.queues.specs.Table.{free, done, next, row}
+use Rattle.queues.specs.Table.{with-counts, U10, R1, R2, R3, R4, R5, R6, R7, Writer, Reader, WAIT, told-status, Plan}
+use Rattle.queues.specs.Table.{Lock, upd, phase-of, status-level, phase, view, Counts, Sound, Fine, go, put-status}
+use Rattle.queues.specs.Table.{join, drop, free, done, next, row}
 use Rattle.queues.specs.Jobs.{fresh-lock}
 use Rattle.queues.proofs.OneHolder.{one-owner, one-holder, range-of, asked, Successor, successor}
 use Rattle.queues.proofs.Cases.{split, calm-asks, calm-waits}
@@ -64,7 +66,7 @@ pub done-sound : (L : Plan) (statuses : ℕ → ℕ) (p i : ℕ) (b : Bool) → 
 done-sound L statuses p i true = tt
 done-sound L statuses p i false = tt
 
-module _ (L : Plan) (G : Lawful (L .tree)) (small : (q j : ℕ) → L .hand-over-limit q j ≤ 1000) (s : Lock)
+module _ (L : Plan) (G : Lawful (L .tree)) (small : (q j : ℕ) → L .hand-over-limit q j ≤ most-hand-overs) (s : Lock)
     (v : Fine L s) where
   abbrev T : Tree
   T = L .tree
@@ -73,15 +75,15 @@ module _ (L : Plan) (G : Lawful (L .tree)) (small : (q j : ℕ) → L .hand-over
   inv = v .queues
 
   -- a STATUS written at the node of one rank is no other's
-  pub status-other : (o i u : ℕ) → On (T .own-level o) i → hold-level (T .own-level o) (phase T s o) ≤ suc i
-      → (q j : ℕ) → q ≢ o → On (T .own-level q) j → hold-level (T .own-level q) (phase T s q) ≤ suc j
+  pub status-other : (o i u : ℕ) → On (T .own-level o) i → holds-from T (view T s) o ≤ suc i → (q j : ℕ) → q ≢ o
+      → On (T .own-level q) j → holds-from T (view T s) q ≤ suc j
       → upd (s .statuses) (T .node o i) u (T .node q j) ≡ s .statuses (T .node q j)
   status-other o i u on l q j a on′ l′ = upd-other (s .statuses) (T .node o i) u (T .node q j)
       (λ z. a (one-owner T G (view T s) inv q o j i on′ on l′ l z .0))
 
   -- so it changes no other's phase
-  phase-status : (o i u : ℕ) → On (T .own-level o) i → hold-level (T .own-level o) (phase T s o) ≤ suc i → (q : ℕ)
-      → q ≢ o → phase T (put-status s (T .node o i) u) q ≡ phase T s q
+  phase-status : (o i u : ℕ) → On (T .own-level o) i → holds-from T (view T s) o ≤ suc i → (q : ℕ) → q ≢ o
+      → phase T (put-status s (T .node o i) u) q ≡ phase T s q
   phase-status o i u on l q a = phase-same (s .place q) (s .statuses (T .node q (status-level (s .place q))))
       (upd (s .statuses) (T .node o i) u (T .node q (status-level (s .place q))))
       (λ j e.
@@ -92,8 +94,8 @@ module _ (L : Plan) (G : Lawful (L .tree)) (small : (q j : ℕ) → L .hand-over
       (rw (phase-at T s q (W5 j) e) (w5-level (T .own-level q) j (s .statuses (T .node q j))))))
 
   -- and nothing that another's place says
-  sound-status : (o i u : ℕ) → On (T .own-level o) i → hold-level (T .own-level o) (phase T s o) ≤ suc i → (q : ℕ)
-      → q ≢ o → Sound L (upd (s .statuses) (T .node o i) u) q (s .place q)
+  sound-status : (o i u : ℕ) → On (T .own-level o) i → holds-from T (view T s) o ≤ suc i → (q : ℕ) → q ≢ o
+      → Sound L (upd (s .statuses) (T .node o i) u) q (s .place q)
   sound-status o i u on l q a = sound-same L small (s .statuses) (upd (s .statuses) (T .node o i) u) q (s .place q)
       (λ j on′ l′. status-other o i u on l q j a on′ l′)
       (v .sound q)
@@ -143,22 +145,12 @@ module _ (L : Plan) (G : Lawful (L .tree)) (small : (q j : ℕ) → L .hand-over
   -- a move that writes no word of a queue
   moved : (p : ℕ) (g : Place) (arrives departs : ℕ → ℕ)
       → hold-level (T .own-level p) (phase-of g (s .statuses (T .node p (status-level g))))
-      ≡ hold-level (T .own-level p) (phase T s p)
+      ≡ holds-from T (view T s) p
       → InRange (T .own-level p) (phase-of g (s .statuses (T .node p (status-level g))))
       → ((j : ℕ) → Waits (phase T s p) j → ⊥)
       → Asks T (prepared (view T s) (phase T (go s p g)) (s .nexts)) p
       (phase-of g (s .statuses (T .node p (status-level g)))) → Sound L (s .statuses) p g
-      → Fine L (record {
-        place = upd (s .place) p g;
-        nexts = s .nexts;
-        statuses = s .statuses;
-        tails = s .tails;
-        arrives = arrives;
-        departs = departs;
-        node-at = s .node-at;
-        head-turn = s .head-turn;
-        next-turn = s .next-turn;
-      })
+      → Fine L (go (with-counts s arrives departs) p g)
   moved p g arrives departs lv rg ws ak so =
       let now : phase T (go s p g) p ≡ phase-of g (s .statuses (T .node p (status-level g))) = phase-now T s p g in
       record {
@@ -180,7 +172,7 @@ module _ (L : Plan) (G : Lawful (L .tree)) (small : (q j : ℕ) → L .hand-over
       let was : phase T s p ≡ clean i = phase-at T s p (W2 i) e in
       let now : phase T (go s₁ p (W3 i)) p ≡ ready i = phase-now T s₁ p (W3 i) in
       let on : On (T .own-level p) i = range-of (phase T s p) (T .own-level p) (inv .range p) (clean i) was in
-      let lv : hold-level (T .own-level p) (phase T s p) ≤ suc i = rw was (omega arith) in
+      let lv : holds-from T (view T s) p ≤ suc i = rw was (omega arith) in
       record {
         queues = kept-by T G (view T s) inv p (phase T (go s₁ p (W3 i))) (s .nexts) (record {
           levels = rw (now, was);
@@ -219,7 +211,7 @@ module _ (L : Plan) (G : Lawful (L .tree)) (small : (q j : ℕ) → L .hand-over
 
   -- W5 waits, or goes on as it was told
   fine-W5 : (p i : ℕ) → s .place p ≡ W5 i → Fine L (row L s p (W5 i))
-  fine-W5 p i e = by (eqb w WAIT) (leb w 1000) (eqb w (told-status i)) refl refl refl
+  fine-W5 p i e = by (eqb w WAIT) (leb w most-hand-overs) (eqb w (told-status i)) refl refl refl
     where
       w : ℕ
       w = s .statuses (T .node p i)
@@ -235,25 +227,25 @@ module _ (L : Plan) (G : Lawful (L .tree)) (small : (q j : ℕ) → L .hand-over
           ⊎-elim (λ (y : w ≡ told-status i). absurd (b y)) (λ (y : Counts L (s .statuses) p 1). y) z)
           (so .2)
 
-      by : (a b c : Bool) → eqb w WAIT ≡ a → leb w 1000 ≡ b → eqb w (told-status i) ≡ c
+      by : (a b c : Bool) → eqb w WAIT ≡ a → leb w most-hand-overs ≡ b → eqb w (told-status i) ≡ c
           → Fine L (cond a s (cond b (go s p Writer) (cond c (go s p (W6 i)) s)))
       by true b c x y z = v
       by false true c x y z =
-          let was : phase T s p ≡ hold 1 = phase-at T s p (W5 i) e ∙ w5-count i w (leb-true w 1000 y) in
+          let was : phase T s p ≡ hold 1 = phase-at T s p (W5 i) e ∙ w5-count i w (leb-true w most-hand-overs y) in
           moved p Writer (s .arrives) (s .departs) (rw was) (omega (arith, so .0))
           (λ j k. subst (λ f. Waits f j) was k)
           tt
-          (all (eqb-false w WAIT x) (omega (arith, told-large i, leb-true w 1000 y)))
+          (all (eqb-false w WAIT x) (omega (arith, told-large i, leb-true w most-hand-overs y)))
       by false false true x y z =
           let was : phase T s p ≡ hold i =
-          phase-at T s p (W5 i) e ∙ w5-told i w (eqb-false w WAIT x) (leb-false w 1000 y) in
+          phase-at T s p (W5 i) e ∙ w5-told i w (eqb-false w WAIT x) (leb-false w most-hand-overs y) in
           moved p (W6 i) (s .arrives) (s .departs) (rw was) (so .0) (λ j k. subst (λ f. Waits f j) was k) tt (so .1)
       by false false false x y z = v
 
   -- a rank writes its own STATUS
-  wrote : (p i u : ℕ) (g : Place) → On (T .own-level p) i → hold-level (T .own-level p) (phase T s p) ≤ suc i
+  wrote : (p i u : ℕ) (g : Place) → On (T .own-level p) i → holds-from T (view T s) p ≤ suc i
       → hold-level (T .own-level p) (phase-of g (upd (s .statuses) (T .node p i) u (T .node p (status-level g))))
-      ≡ hold-level (T .own-level p) (phase T s p)
+      ≡ holds-from T (view T s) p
       → InRange (T .own-level p) (phase-of g (upd (s .statuses) (T .node p i) u (T .node p (status-level g))))
       → ((j : ℕ) → Waits (phase T s p) j → ⊥)
       → Calm (phase-of g (upd (s .statuses) (T .node p i) u (T .node p (status-level g))))
@@ -285,7 +277,7 @@ module _ (L : Plan) (G : Lawful (L .tree)) (small : (q j : ℕ) → L .hand-over
       on : On (T .own-level p) i
       on = range-of (phase T s p) (T .own-level p) (inv .range p) (hold i) was
 
-      lv : hold-level (T .own-level p) (phase T s p) ≡ i
+      lv : holds-from T (view T s) p ≡ i
       lv = ap (hold-level (T .own-level p)) was
 
       so : Counts L (s .statuses) p (suc i)
@@ -428,7 +420,7 @@ module _ (L : Plan) (G : Lawful (L .tree)) (small : (q j : ℕ) → L .hand-over
       r≢p : r ≢ p
       r≢p z = subst (λ f. Waits f i) (sym (n .waits) ∙ (ap (phase T s) z ∙ was)) refl
 
-      lv : hold-level (T .own-level r) (phase T s r) ≤ suc i
+      lv : holds-from T (view T s) r ≤ suc i
       lv = rw (n .waits) (omega arith)
 
   -- two ranks of one element have one way up from it
@@ -452,7 +444,7 @@ module _ (L : Plan) (G : Lawful (L .tree)) (small : (q j : ℕ) → L .hand-over
       rg : (1 ≤ 1) × (1 ≤ i) × (i ≤ T .own-level p)
       rg = range-of (phase T s p) (T .own-level p) (inv .range p) (give 1 i t) was
 
-      so : (n ≤ 1000) × Counts L (s .statuses) p 1
+      so : (n ≤ most-hand-overs) × Counts L (s .statuses) p 1
       so = subst (Sound L (s .statuses) p) e (v .sound p)
 
       own : (c : Successor T (view T s) p i t) → Counts L (s .statuses) (c .rank) (suc i)
@@ -464,7 +456,8 @@ module _ (L : Plan) (G : Lawful (L .tree)) (small : (q j : ℕ) → L .hand-over
       all : (c : Successor T (view T s) p i t) → Counts L (upd (s .statuses) (T .node (c .rank) i) n) (c .rank) 1
       all c j a b = by (cases-order j i)
         where
-          by : (j ≡ i) ⊎ ((j < i) ⊎ (i < j)) → upd (s .statuses) (T .node (c .rank) i) n (T .node (c .rank) j) ≤ 1000
+          by : (j ≡ i) ⊎ ((j < i) ⊎ (i < j))
+              → upd (s .statuses) (T .node (c .rank) i) n (T .node (c .rank) j) ≤ most-hand-overs
           by (inl z) = rw (z, upd-same (s .statuses) (T .node (c .rank) i) n) (so .0)
           by (inr (inl z)) = rw (
             status-own (c .rank) i n j (c .on) (omega arith) (omega arith),
@@ -492,18 +485,7 @@ module _ (L : Plan) (G : Lawful (L .tree)) (small : (q j : ℕ) → L .hand-over
   -- a move that leaves the phase alone
   quiet : (p : ℕ) (g : Place) (arrives departs : ℕ → ℕ)
       → phase-of g (s .statuses (T .node p (status-level g))) ≡ phase T s p → Calm (phase T s p)
-      → Sound L (s .statuses) p g
-      → Fine L (record {
-        place = upd (s .place) p g;
-        nexts = s .nexts;
-        statuses = s .statuses;
-        tails = s .tails;
-        arrives = arrives;
-        departs = departs;
-        node-at = s .node-at;
-        head-turn = s .head-turn;
-        next-turn = s .next-turn;
-      })
+      → Sound L (s .statuses) p g → Fine L (go (with-counts s arrives departs) p g)
   quiet p g arrives departs e c so = moved p g arrives departs (ap (hold-level (T .own-level p)) e)
       (rw e (inv .range p)) (calm-waits (phase T s p) c)
       (calm-asks T (prepared (view T s) (phase T (go s p g)) (s .nexts)) p
@@ -578,17 +560,7 @@ module _ (L : Plan) (G : Lawful (L .tree)) (small : (q j : ℕ) → L .hand-over
   At f p g = ((w : ℕ) → phase-of g w ≡ f) × Sound L (s .statuses) p g
 
   to : (f : Phase) → Calm f → (p : ℕ) → phase T s p ≡ f → (g : Place) (arrives departs : ℕ → ℕ) → At f p g
-      → Fine L (record {
-        place = upd (s .place) p g;
-        nexts = s .nexts;
-        statuses = s .statuses;
-        tails = s .tails;
-        arrives = arrives;
-        departs = departs;
-        node-at = s .node-at;
-        head-turn = s .head-turn;
-        next-turn = s .next-turn;
-      })
+      → Fine L (go (with-counts s arrives departs) p g)
   to f c p was g arrives departs h =
       quiet p g arrives departs (h .0 (s .statuses (T .node p (status-level g))) ∙ sym was) (rw was c) (h .1)
 
@@ -639,16 +611,17 @@ module _ (L : Plan) (G : Lawful (L .tree)) (small : (q j : ℕ) → L .hand-over
   fine-row p o (W6 i) e = fine-W6 p i e
   fine-row p o (W7 n) e =
       let so = subst (Sound L (s .statuses) p) e (v .sound p) in
-      to (hold 1) tt p (phase-at T s p (W7 n) e) (next L s p n (W8 0) W7) (upd (s .arrives) n (s .arrives n + 2 ^ 62))
-      (s .departs) (after p n so (W8 0) W7 ((λ w. refl), so) (λ k. ((λ w. refl), so)))
+      to (hold 1) tt p (phase-at T s p (W7 n) e) (next L s p n (W8 0) W7)
+      (upd (s .arrives) n (s .arrives n + write-bit)) (s .departs)
+      (after p n so (W8 0) W7 ((λ w. refl), so) (λ k. ((λ w. refl), so)))
   fine-row p o (W8 n) e =
       let so = subst (Sound L (s .statuses) p) e (v .sound p) in
       to (hold 1) tt p (phase-at T s p (W8 n) e) (W9 n (s .arrives n)) (s .arrives) (s .departs) ((λ w. refl), so)
   fine-row p o (W9 n a) e =
       let so = subst (Sound L (s .statuses) p) e (v .sound p) in
       to (hold 1) tt p (phase-at T s p (W9 n a) e)
-      (cond (eqb a (2 ^ 62 + s .departs n)) (next L s p n Writer W8) (W8 n)) (s .arrives) (s .departs)
-      (cond-both (eqb a (2 ^ 62 + s .departs n)) (next L s p n Writer W8) (W8 n) (At (hold 1) p)
+      (cond (eqb a (write-bit + s .departs n)) (next L s p n Writer W8) (W8 n)) (s .arrives) (s .departs)
+      (cond-both (eqb a (write-bit + s .departs n)) (next L s p n Writer W8) (W8 n) (At (hold 1) p)
       (λ _. after p n so Writer W8 ((λ w. refl), so) (λ k. ((λ w. refl), so)))
       (λ _. ((λ w. refl), so)))
   fine-row p o (U1 i) e =
@@ -674,7 +647,7 @@ module _ (L : Plan) (G : Lawful (L .tree)) (small : (q j : ℕ) → L .hand-over
   fine-row p o (U7 n a) e =
       let so = subst (Sound L (s .statuses) p) e (v .sound p) in
       to (hold 1) tt p (phase-at T s p (U7 n a) e) (next L s p n (U8 1) U6)
-      (upd (s .arrives) n (s .arrives n - (2 ^ 62 + a))) (s .departs)
+      (upd (s .arrives) n (s .arrives n - (write-bit + a))) (s .departs)
       (after p n so (U8 1) U6 ((λ w. refl), tt) (λ k. ((λ w. refl), so)))
   fine-row p o (U8 i) e = fine-U8 p i e
   fine-row p o (U9 i t) e = fine-U9 p i t e
@@ -687,11 +660,11 @@ module _ (L : Plan) (G : Lawful (L .tree)) (small : (q j : ℕ) → L .hand-over
       (upd (s .arrives) (L .home p) (pred (s .arrives (L .home p)))) (s .departs) ((λ w. refl), tt)
   fine-row p o R3 e = to out tt p (phase-at T s p R3 e)
       (cond (ltb (s .arrives (L .home p)) (L .reader-threshold)) R1
-      (cond (leb (2 ^ 62) (s .arrives (L .home p))) R3 R4))
+      (cond (leb write-bit (s .arrives (L .home p))) R3 R4))
       (s .arrives) (s .departs)
       (either p (ltb (s .arrives (L .home p)) (L .reader-threshold)) R1
-      (cond (leb (2 ^ 62) (s .arrives (L .home p))) R3 R4) ((λ w. refl), tt)
-      (either p (leb (2 ^ 62) (s .arrives (L .home p))) R3 R4 ((λ w. refl), tt) ((λ w. refl), tt)))
+      (cond (leb write-bit (s .arrives (L .home p))) R3 R4) ((λ w. refl), tt)
+      (either p (leb write-bit (s .arrives (L .home p))) R3 R4 ((λ w. refl), tt) ((λ w. refl), tt)))
   fine-row p o R4 e = to out tt p (phase-at T s p R4 e) (cond (eqb (s .tails (T .element p 1)) 0) R5 R3) (s .arrives)
       (s .departs) (either p (eqb (s .tails (T .element p 1)) 0) R5 R3 ((λ w. refl), tt) ((λ w. refl), tt))
   fine-row p o R5 e = to out tt p (phase-at T s p R5 e) (R6 (s .departs (L .home p))) (s .arrives)

@@ -1,7 +1,8 @@
--- What can be reached by steps and leaves, and the descent that all three stages share.
-use Prim.Native.Nat.{ℕ, zero, suc, _≤_, _<_}
+-- What can be reached by steps and leaves, and the descent that all three stages of the way back share: each rank has
+-- a number; while one is above 0, some moves lower the sum of the numbers; so some moves lead to where all are 0.
+use Prim.Native.Nat.{ℕ, zero, suc, _+_, _≤_, _<_}
 use mathlib.Core.Path.{_≡_, refl}
-use mathlib.Core.Logic.{_⊎_, inl, inr, ⊎-elim}
+use mathlib.Core.Logic.{_⊎_, inl, inr}
 use mathlib.Core.List.{List, [], _∷_}
 use native.Mathlib.Omega.{arith}
 use Rattle.std.proofs.shelf.Tests.{cases-lt}
@@ -33,26 +34,29 @@ onwards P L Q R f s (move s′ m a r) = move s′ m a (onwards P L Q R f (act L 
 pub some-part : (n : ℕ) (f : ℕ → ℕ) → (total n f ≡ 0) ⊎ ((p : ℕ) × On n p × (0 < f p))
 unfolding total
 some-part zero f = inl refl
-some-part (suc n) f = ⊎-elim
-    (λ (z : 0 < f (suc n)). inr (suc n, omega arith, z))
-    (λ (z : f (suc n) ≤ 0).
-    ⊎-elim
-    (λ (e : total n f ≡ 0). inl (omega arith))
-    (λ (w : (p : ℕ) × On n p × (0 < f p)). inr (w .0, omega (arith, w .1), w .2))
-    (some-part n f))
-    (cases-lt 0 (f (suc n)))
+some-part (suc n) f = by (cases-lt 0 (f (suc n))) (some-part n f)
+  where
+    by : (0 < f (suc n)) ⊎ (f (suc n) ≤ 0) → (total n f ≡ 0) ⊎ ((p : ℕ) × On n p × (0 < f p))
+        → (f (suc n) + total n f ≡ 0) ⊎ ((p : ℕ) × On (suc n) p × (0 < f p))
+    by (inl z) w = inr (suc n, omega arith, z)
+    by (inr z) (inl e) = inl (omega arith)
+    by (inr z) (inr (p, o, w)) = inr (p, omega (arith, o), w)
 
 -- while some rank's number is above 0, a way lowers the sum of the numbers: at the end all are 0
 module _ (P : ℕ) (L : Plan) (num : ℕ → Place → ℕ) (Keeps : Lock → Type 0) where
+  -- the sum of the numbers
   abbrev pub Sum : Lock → ℕ
   Sum s = total P (λ q. num q (s .place q))
 
+  -- it has fallen, and what is kept still holds
   abbrev pub Lower : Lock → Lock → Type 0
   Lower s t = Keeps t × (Sum t < Sum s)
 
+  -- all numbers are 0
   abbrev pub Done : Lock → Type 0
   Done t = Keeps t × ((q : ℕ) → On P q → num q (t .place q) ≡ 0)
 
+  -- if the sum can be lowered while it is above 0, all numbers come to 0
   pub descend : ((s : Lock) → Keeps s → (p : ℕ) → On P p → 0 < num p (s .place p) → Reach P L (Lower s) s)
       → (d : ℕ) (s : Lock) → Keeps s → Sum s ≤ d → Reach P L Done s
   descend f zero s k l = here s (k, λ q on. omega (arith, total-part P (λ q. num q (s .place q)) q on))

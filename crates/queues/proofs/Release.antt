@@ -5,8 +5,9 @@ use mathlib.Core.Path.{_≡_, refl, sym, _∙_, ap, subst}
 use mathlib.Core.Logic.{_⊎_, inl, inr, _≢_}
 use native.Mathlib.Omega.{arith}
 use Rattle.std.proofs.shelf.Tests.{cases-eq}
-use Rattle.queues.specs.Machine.{Tree, Lawful, On, Phase, out, fresh, clean, ready, link, wait, hold, give}
-use Rattle.queues.specs.Machine.{hold-level, InRange, Waits, Calm, State, Inv, Holder, Member, Heads, Behind, Asks}
+use Rattle.queues.specs.Machine.{holds-from, Tree, Lawful, On, Phase, out, fresh, clean, ready, link, wait, hold}
+use Rattle.queues.specs.Machine.{give, hold-level, InRange, Waits, Calm, State, Inv, Holder, Member, Heads, Behind}
+use Rattle.queues.specs.Machine.{Asks}
 use Rattle.queues.proofs.OneHolder.{range-of, one-holder}
 use Rattle.queues.proofs.Cases.{split, calm-asks}
 
@@ -51,11 +52,11 @@ module _ (T : Tree) (G : Lawful T) (s : State) (v : Inv T s) (p i : ℕ) (e : s 
   on-p = range-of (s .phases p) (T .own-level p) (v .range p) (hold i) e
 
   -- the rank held from i down
-  level-p : hold-level (T .own-level p) (s .phases p) ≡ i
+  level-p : holds-from T s p ≡ i
   level-p = ap (hold-level (T .own-level p)) e
 
   -- nobody else holds more or less
-  level-o : (q : ℕ) → q ≢ p → hold-level (T .own-level q) (phases q) ≡ hold-level (T .own-level q) (s .phases q)
+  level-o : (q : ℕ) → q ≢ p → hold-level (T .own-level q) (phases q) ≡ holds-from T s q
   level-o q a = ap (hold-level (T .own-level q)) (c .others q a)
 
   -- its node was the head
@@ -123,7 +124,7 @@ module _ (T : Tree) (G : Lawful T) (s : State) (v : Inv T s) (p i : ℕ) (e : s 
   heads-o : (q : ℕ) → q ≢ p → (j : ℕ) → On (T .own-level q) j → hold-level (T .own-level q) (phases q) ≤ j
       → Heads T s′ q j
   heads-o q a j on l =
-      let l′ : hold-level (T .own-level q) (s .phases q) ≤ j = omega (arith, level-o q a) in
+      let l′ : holds-from T s q ≤ j = omega (arith, level-o q a) in
       kept q j
       (λ w.
       let z : j ≡ i = G .level-of q p j i on on-p w in
@@ -161,7 +162,7 @@ module _ (T : Tree) (G : Lawful T) (s : State) (v : Inv T s) (p i : ℕ) (e : s 
   holder-o k ne o = split p
       (λ q.
       (j : ℕ) → On (T .own-level q) j → T .element q j ≡ k → s .node-at k (s .head-turn k) ≡ T .node q j
-      → hold-level (T .own-level q) (s .phases q) ≤ j → Holder T s′ k)
+      → holds-from T s q ≤ j → Holder T s′ k)
       from-p
       from-o
       (o .rank)
@@ -172,7 +173,7 @@ module _ (T : Tree) (G : Lawful T) (s : State) (v : Inv T s) (p i : ℕ) (e : s 
       (o .holds)
     where
       from-p : (j : ℕ) → On (T .own-level p) j → T .element p j ≡ k → s .node-at k (s .head-turn k) ≡ T .node p j
-          → hold-level (T .own-level p) (s .phases p) ≤ j → Holder T s′ k
+          → holds-from T s p ≤ j → Holder T s′ k
       from-p j on q is l =
           let d : j ≢ i = λ z. ne (sym q ∙ ap (T .element p) z) in
           record {
@@ -185,7 +186,7 @@ module _ (T : Tree) (G : Lawful T) (s : State) (v : Inv T s) (p i : ℕ) (e : s 
           }
 
       from-o : (x : ℕ) → x ≢ p → (j : ℕ) → On (T .own-level x) j → T .element x j ≡ k
-          → s .node-at k (s .head-turn k) ≡ T .node x j → hold-level (T .own-level x) (s .phases x) ≤ j → Holder T s′ k
+          → s .node-at k (s .head-turn k) ≡ T .node x j → holds-from T s x ≤ j → Holder T s′ k
       from-o x a j on q is l =
           record {
             rank = x;

@@ -3,7 +3,7 @@
 -- rank: W9 may read once more, and then succeeds since the counter is drained; U10 may have to look again, and then
 -- finds its successor linked; where the successor has yet to link itself, that one moves. No other rank's number
 -- changes.
-use Prim.Native.Nat.{ℕ, pred, _+_, _-_, _*_, _^_, _≤_, _<_}
+use Prim.Native.Nat.{ℕ, pred, _+_, _-_, _*_, _≤_, _<_}
 use mathlib.Core.Path.{_≡_, refl, sym, _∙_, ap, subst}
 use mathlib.Core.Logic.{_⊎_, inl, inr, _≢_, ⊎-elim}
 use mathlib.Core.Bool.{cond}
@@ -11,9 +11,10 @@ use lib.Dec.{leb}
 use native.Mathlib.Omega.{arith}
 use Rattle.std.proofs.shelf.Tests.{cases-eq, ne-eqb}
 use Rattle.std.proofs.shelf.Ways.{tells}
+use Rattle.places.specs.Words.{most-hand-overs}
 use Rattle.queues.specs.Machine.{Tree, On, Phase, out, fresh, clean, ready, link, wait, hold, give, hold-level}
 use Rattle.queues.specs.Machine.{InRange, Inv}
-use Rattle.queues.specs.Counters.{tries, admits, clears, Marks}
+use Rattle.queues.specs.Counters.{write-bit, tries, admits, clears, Marks}
 use Rattle.queues.specs.Table.{Place, Idle, W1, W2, W3, W4, W5, W6, W7, W8, W9, U1, U2, U3, U4, U5, U6, U7, U8, U9}
 use Rattle.queues.specs.Table.{U10, R1, R2, R3, R4, R5, R6, R7, Writer, Reader, Plan, Lock, upd, phase-of}
 use Rattle.queues.specs.Table.{status-level, phase, view, Sound, go, row}
@@ -87,7 +88,7 @@ unfolding upd
 falls L s p f c o a = grind (arith, tells)
 
 -- a writer that does not wait is able, or at one of the three odd places
-able-or : (L : Plan) (s : Lock) (p : ℕ) (f : Place) → ((q j : ℕ) → L .hand-over-limit q j ≤ 1000)
+able-or : (L : Plan) (s : Lock) (p : ℕ) (f : Place) → ((q j : ℕ) → L .hand-over-limit q j ≤ most-hand-overs)
     → InRange (L .tree .own-level p) (phase-of f (s .statuses (L .tree .node p (status-level f))))
     → Sound L (s .statuses) p f → Within (L .counters) f
     → NoWait (phase-of f (s .statuses (L .tree .node p (status-level f))))
@@ -178,7 +179,7 @@ module _ (P : ℕ) (L : Plan) (g : Apt P L) where
 
   -- the counter is drained: W8 reads what W9 wants
   drained : (s : Lock) → Quiet s → (p k n : ℕ) → On P p → s .place p ≡ W9 k n → k < C
-      → s .arrives k ≡ 2 ^ 62 + s .departs k
+      → s .arrives k ≡ write-bit + s .departs k
   drained s v p k n on e lt = passes P C (L .reader-threshold) (tally L s (v .0 .bit)) (v .0 .safe .counted) k lt
       (v .0 .safe .counted .marked p k lt (subst (λ x. Marks x k) (sym (gate-at T s p (W9 k n) e)) tt))
       (λ q o. nothing q o (loads (L .home q) (s .place q) k (v .1 q o)))
@@ -207,7 +208,7 @@ module _ (P : ℕ) (L : Plan) (g : Apt P L) where
 
   -- W9, one move or three
   check-again : (s : Lock) → Quiet s → (p k n : ℕ) → On P p → s .place p ≡ W9 k n → Reach P L (Less s) s
-  check-again s v p k n on e = by (cases-eq n (2 ^ 62 + s .departs k))
+  check-again s v p k n on e = by (cases-eq n (write-bit + s .departs k))
     where
       lt : k < C
       lt = subst (Within C) e (v .0 .safe .within p)
@@ -236,10 +237,10 @@ module _ (P : ℕ) (L : Plan) (g : Apt P L) where
       second : Good P L s₁ → Reach P L (Less s) s₁
       second w = by-step P L g (Less s) s₁ w p on (W8 k) (upd-same (s .place) p (W8 k)) (omega arith) third
 
-      by : (n ≡ 2 ^ 62 + s .departs k) ⊎ (n ≡ 2 ^ 62 + s .departs k → ⊥) → Reach P L (Less s) s
+      by : (n ≡ write-bit + s .departs k) ⊎ (n ≡ write-bit + s .departs k → ⊥) → Reach P L (Less s) s
       by (inl z) = one-move s v p on (W9 k n) e (lt, z)
       by (inr z) = by-step P L g (Less s) s (v .0) p on (W9 k n) e (omega arith)
-          (rw (ne-eqb n (2 ^ 62 + s .departs k) z) second)
+          (rw (ne-eqb n (write-bit + s .departs k) z) second)
 
   -- U10, one move or three, or a move of the rank that is about to link itself
   last-or-not : (s : Lock) → Quiet s → (p i : ℕ) → On P p → s .place p ≡ U10 i → Reach P L (Less s) s

@@ -1,6 +1,6 @@
 -- Sums over the ranks: they are equal where their parts are, move by what one rank's part moves, and cover each part.
 use Prim.Native.Nat.{ℕ, zero, suc, _+_, _≤_}
-use mathlib.Core.Path.{_≡_, refl, sym, ap}
+use mathlib.Core.Path.{_≡_, refl, sym, _∙_, ap}
 use mathlib.Core.Logic.{_≢_, ⊎-elim}
 use native.Mathlib.Omega.{arith}
 use Rattle.std.proofs.shelf.Tests.{cases-eq, eq-eqb, ne-eqb}
@@ -52,3 +52,7 @@ pub total-zero : (n : ℕ) → total n (λ q. 0) ≡ 0
 unfolding total
 total-zero zero = refl
 total-zero (suc n) = omega (arith, total-zero n)
+
+-- a sum of parts that are all 0
+pub total-none : (n : ℕ) (f : ℕ → ℕ) → ((q : ℕ) → On n q → f q ≡ 0) → total n f ≡ 0
+total-none n f e = total-same n (λ _. 0) f (λ q a b. e q (record { from = a; upto = b })) ∙ total-zero n

@@ -2,21 +2,21 @@
 -- empty, no write bit stands, and ARRIVE is DEPART. So a reader at R3 comes in and leaves, in four moves; where
 -- ARRIVE has reached the threshold it first takes DEPART out of both words, in four more. Then every rank is idle,
 -- and the words are at rest.
-use Prim.Native.Nat.{ℕ, suc, _-_, _^_, _≤_, _<_}
+use Prim.Native.Nat.{ℕ, suc, _-_, _≤_, _<_}
 use mathlib.Core.Path.{_≡_, refl, _∙_, ap, subst}
-use mathlib.Core.Logic.{_⊎_, inl, _≢_, ⊎-elim}
+use mathlib.Core.Logic.{_⊎_, inl, inr, _≢_, ⊎-elim}
 use mathlib.Core.Bool.{cond}
 use lib.Dec.{eqb}
 use native.Mathlib.Omega.{arith}
 use Rattle.std.proofs.shelf.Tests.{cases-lt, eq-eqb, lt-ltb, le-ltb, lt-leb}
 use Rattle.std.proofs.shelf.Ways.{tells}
-use Rattle.queues.specs.Machine.{Tree, On, hold-level, Inv}
-use Rattle.queues.specs.Counters.{total, tries, admits, clears, Marks, shut, none}
-use Rattle.queues.specs.Table.{Place, Idle, R1, R3, R4, R5, R6, R7, Reader, Plan, Lock, status-level, phase, view, go}
+use Rattle.queues.specs.Machine.{holds-from, Tree, On, hold-level, Inv}
+use Rattle.queues.specs.Counters.{Load, write-bit, total, tries, admits, clears, Marks, shut, none}
+use Rattle.queues.specs.Table.{Place, Idle, R1, R3, R4, R5, R6, R7, Reader, Plan, Lock, status-level, view, go}
 use Rattle.queues.specs.Table.{put-arrive, put-depart, row}
 use Rattle.queues.specs.Invariant.{load-of, gate, Within}
 use Rattle.queues.specs.Moves.{tag, AtRest, Apt, WayBack}
-use Rattle.queues.proofs.Sums.{total-same, total-zero}
+use Rattle.queues.proofs.Sums.{total-none}
 use Rattle.queues.proofs.Cases.{split}
 use Rattle.queues.proofs.Phases.{upd-same, upd-other}
 use Rattle.queues.proofs.QueueRows.{phase-at}
@@ -66,7 +66,7 @@ module _ (P : ℕ) (L : Plan) (g : Apt P L) where
 
   -- such ranks hold nothing
   still-phase : (s : Lock) → Resting s → (q : ℕ) → On (T .own-level q) 1
-      → hold-level (T .own-level q) (phase T s q) ≡ suc (T .own-level q)
+      → holds-from T (view T s) q ≡ suc (T .own-level q)
   still-phase s v q o = ⊎-elim
       (λ (e : s .place q ≡ Idle). ap (hold-level (T .own-level q)) (phase-at T s q Idle e))
       (λ (e : s .place q ≡ R3). ap (hold-level (T .own-level q)) (phase-at T s q R3 e))
@@ -76,7 +76,7 @@ module _ (P : ℕ) (L : Plan) (g : Apt P L) where
   still-gate : (s : Lock) → Resting s → (q c : ℕ) → Marks (gate T s q) c → ⊥
   still-gate s v q c m = ⊎-elim
       (λ (z : gate T s q ≡ shut). subst (λ x. Marks x c) z m)
-      (λ (z : (hold-level (T .own-level q) (phase T s q) ≡ 1) × On (T .own-level q) 1).
+      (λ (z : (holds-from T (view T s) q ≡ 1) × On (T .own-level q) 1).
       absurd (omega (arith, still-phase s v q (z .1))))
       (gate-phase (T .own-level q) (s .place q) (s .statuses (T .node q (status-level (s .place q))))
       (v .0 .safe .fine .queues .range q))
@@ -85,14 +85,7 @@ module _ (P : ℕ) (L : Plan) (g : Apt P L) where
   pub calm : (s : Lock) → Resting s → Calm L s
   calm s v =
       record {
-        tails = λ k.
-            inv .empty k
-            (⊎-elim
-            (λ (z : s .head-turn k < s .next-turn k).
-            let h = inv .holder k z in
-            absurd (omega (arith, h .holds, h .on, still-phase s v (h .rank) (omega (arith, h .on)))))
-            (λ (z : s .next-turn k ≤ s .head-turn k). omega (arith, inv .order k))
-            (cases-lt (s .head-turn k) (s .next-turn k)));
+        tails = λ k. inv .empty k (nobody k (cases-lt (s .head-turn k) (s .next-turn k)));
         counts = λ c l. sums c l .0;
         small = λ c l. sums c l .1;
       }
@@ -100,26 +93,26 @@ module _ (P : ℕ) (L : Plan) (g : Apt P L) where
       inv : Inv T (view T s)
       inv = v .0 .safe .fine .queues
 
+      -- nobody holds, so nobody stands in a queue
+      nobody : (k : ℕ) → (s .head-turn k < s .next-turn k) ⊎ (s .next-turn k ≤ s .head-turn k)
+          → s .head-turn k ≡ s .next-turn k
+      nobody k (inl z) =
+          let h = inv .holder k z in
+          absurd (omega (arith, h .holds, h .on, still-phase s v (h .rank) (omega (arith, h .on))))
+      nobody k (inr z) = omega (arith, inv .order k)
+
+      weightless : (w : Load → ℕ → ℕ) (c : ℕ) → w none c ≡ 0
+          → total P (λ q. w (load-of (L .home q) (s .place q)) c) ≡ 0
+      weightless w c e = total-none P (λ q. w (load-of (L .home q) (s .place q)) c)
+          (λ q on. ap (λ l. w l c) (still-none (L .home q) (s .place q) (v .1 q on)) ∙ e)
+
+      -- nobody has a load or stands for a bit
       sums : (c : ℕ) → c < L .counters → (s .arrives c ≡ s .departs c) × (s .departs c ≤ L .reader-threshold)
       sums c l =
           let o = v .0 .safe .counted .each c l in
-          let n : (q : ℕ) → On P q → load-of (L .home q) (s .place q) ≡ none =
-          λ q on. still-none (L .home q) (s .place q) (v .1 q on) in
-          let x : total P (λ q. tries (load-of (L .home q) (s .place q)) c) ≡ 0 =
-          total-same P
-          (λ q. 0)
-          (λ q. tries (load-of (L .home q) (s .place q)) c)
-          (λ q a b. ap (λ y. tries y c) (n q (record { from = a; upto = b }))) ∙ total-zero P in
-          let y : total P (λ q. admits (load-of (L .home q) (s .place q)) c) ≡ 0 =
-          total-same P
-          (λ q. 0)
-          (λ q. admits (load-of (L .home q) (s .place q)) c)
-          (λ q a b. ap (λ y. admits y c) (n q (record { from = a; upto = b }))) ∙ total-zero P in
-          let z : total P (λ q. clears (load-of (L .home q) (s .place q)) c) ≡ 0 =
-          total-same P
-          (λ q. 0)
-          (λ q. clears (load-of (L .home q) (s .place q)) c)
-          (λ q a b. ap (λ y. clears y c) (n q (record { from = a; upto = b }))) ∙ total-zero P in
+          let x = weightless tries c refl in
+          let y = weightless admits c refl in
+          let z = weightless clears c refl in
           let b : v .0 .bit c ≢ 1 = λ w. still-gate s v (o .stands w .0) c (o .stands w .1) in
           (omega (arith, o .sum, o .bits), omega (arith, o .small))
 
@@ -175,7 +168,7 @@ module _ (P : ℕ) (L : Plan) (g : Apt P L) where
   clear-first s v p on e l = by-step P L g (Home s p) s (v .0) p on R3 e (omega arith)
       (rw (
         le-ltb (s .arrives c) (L .reader-threshold) l,
-        lt-leb (2 ^ 62) (s .arrives c) (omega (arith, all .counts c hc, all .small c hc, g .less)),
+        lt-leb write-bit (s .arrives c) (omega (arith, all .counts c hc, all .small c hc, g .less)),
       )
       second)
     where

@@ -1,11 +1,12 @@
 -- The counters as an abstract machine, with their invariant. Of a rank it keeps its load, what the rank stands for
 -- in a counter, and its gate, how far it has come with the write bits. The invariant is an account: ARRIVE is the
 -- write bit, if it stands, and DEPART, and all loads. While a writer keeps a counter empty no reader of it is in.
-use Prim.Native.Nat.{ℕ, zero, suc, _+_, _*_, _^_, _≤_, _<_}
+use Prim.Native.Nat.{ℕ, zero, suc, _+_, _*_, _≤_, _<_}
 use mathlib.Core.Path.{_≡_}
 use mathlib.Core.Logic.{_≢_}
 use mathlib.Core.Bool.{cond}
 use lib.Dec.{eqb}
+pub use Rattle.places.specs.Words.{write-bit}
 use Rattle.queues.specs.Machine.{On}
 
 -- the sum over the ranks 1 to n
@@ -89,10 +90,6 @@ pub record Tally : Type 0 where
   pub arrives : ℕ → ℕ
   pub departs : ℕ → ℕ
   pub bit : ℕ → ℕ
-
--- the write bit, as it stands in ARRIVE
-abbrev pub write-bit : ℕ
-write-bit = 2 ^ 62
 
 -- the account of counter c
 pub record Count (P limit : ℕ) (s : Tally) (c : ℕ) : Type 0 where

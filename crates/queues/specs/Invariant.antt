@@ -3,6 +3,7 @@
 use Prim.Native.Nat.{ℕ, _<_}
 use mathlib.Core.Bool.{cond}
 use lib.Dec.{eqb, leb}
+use Rattle.places.specs.Words.{most-hand-overs}
 use Rattle.queues.specs.Machine.{Tree}
 use Rattle.queues.specs.Table.{Place, Idle, W1, W2, W3, W4, W5, W6, W7, W8, W9, U1, U2, U3, U4, U5, U6, U7, U8, U9}
 use Rattle.queues.specs.Table.{U10, R1, R2, R3, R4, R5, R6, R7, Writer, Reader, WAIT, Plan, Lock, status-level, Fine}
@@ -17,7 +18,7 @@ gate-of (W1 i) w = shut
 gate-of (W2 i) w = shut
 gate-of (W3 i) w = shut
 gate-of (W4 i t) w = shut
-gate-of (W5 i) w = cond (eqb w WAIT) shut (cond (leb w 1000) wide shut)
+gate-of (W5 i) w = cond (eqb w WAIT) shut (cond (leb w most-hand-overs) wide shut)
 gate-of (W6 i) w = shut
 gate-of (W7 k) w = raising k
 gate-of (W8 k) w = checking k

@@ -1,8 +1,10 @@
--- The jobs of the abstract machine, and what is claimed of them first: a writer that is in is alone.
+-- The jobs of the abstract machine, and what is claimed of them first: a writer that is in is alone. A job starts with
+-- the lock in which nothing has happened, and goes on by any calls that the machine accepts.
 use Prim.Native.Nat.{ℕ, _≤_, _<_}
 use mathlib.Core.Path.{_≡_}
 use mathlib.Core.Bool.{cond}
 use lib.Dec.{leb}
+use Rattle.places.specs.Words.{most-hand-overs}
 use Rattle.queues.specs.Machine.{Lawful, On}
 use Rattle.queues.specs.Counters.{write-bit}
 use Rattle.queues.specs.Table.{Idle, W1, U1, U4, R1, R7, Writer, Reader, Plan, Lock, go, row}
@@ -27,7 +29,7 @@ pub record Sensible (P : ℕ) (L : Plan) : Type 0 where
   -- the laws of its tree
   pub tree : Lawful (L .tree)
   -- a hand-over limit is a count
-  pub small : (p j : ℕ) → L .hand-over-limit p j ≤ 1000
+  pub small : (p j : ℕ) → L .hand-over-limit p j ≤ most-hand-overs
   -- the reader threshold lies below the write bit
   pub threshold-fits : L .reader-threshold ≤ write-bit
   -- whoever has a level is a rank

@@ -6,6 +6,7 @@ use mathlib.Core.Logic.{_⊎_}
 use mathlib.Core.Bool.{cond}
 use mathlib.Core.List.{List, [], _∷_}
 use lib.Dec.{leb}
+use Rattle.places.specs.Words.{most-hand-overs}
 use Rattle.queues.specs.Machine.{Tree, On}
 use Rattle.queues.specs.Counters.{write-bit}
 use Rattle.queues.specs.Table.{Place, Idle, W1, W2, W3, W4, W5, W6, W7, W8, W9, U1, U2, U3, U4, U5, U6, U7, U8, U9}
@@ -40,7 +41,7 @@ Accepts L s p (W3 i) = On (L .tree .own-level p) i
 Accepts L s p (W4 i t) = On (L .tree .own-level p) i × Node (L .tree) t
 Accepts L s p (W5 i) = On (L .tree .own-level p) i
     × ((s .statuses (L .tree .node p i) ≡ WAIT)
-    ⊎ ((s .statuses (L .tree .node p i) ≡ told-status i) ⊎ (s .statuses (L .tree .node p i) ≤ 1000)))
+    ⊎ ((s .statuses (L .tree .node p i) ≡ told-status i) ⊎ (s .statuses (L .tree .node p i) ≤ most-hand-overs)))
 Accepts L s p (W6 i) = On (L .tree .own-level p) i
 Accepts L s p (W7 k) = k < L .counters
 Accepts L s p (W8 k) = k < L .counters

@@ -1,24 +1,23 @@
 -- The table of places as a function on the abstract machine: each row changes one word and the place of one rank, and
 -- the rows of a queue drive its history: W3 adds a turn, U3, U9 and a U10 that succeeds let the head go.
 -- Below it, how a place is seen by the queues, and the first part of the invariant.
-use Prim.Native.Nat.{ℕ, suc, pred, _+_, _-_, _^_, _≤_}
+use Prim.Native.Nat.{ℕ, suc, pred, _+_, _-_, _≤_}
 use mathlib.Core.Path.{_≡_}
 use mathlib.Core.Logic.{_⊎_}
 use mathlib.Core.Bool.{cond}
 use lib.Dec.{eqb, leb, ltb}
+use Rattle.places.specs.Words.{most-hand-overs, mode-change, to-parent}
+pub use Rattle.places.specs.Words.{wait as WAIT}
 use Rattle.queues.specs.Machine.{Tree, On, Phase, out, fresh, clean, ready, link, wait, hold, give, State, Inv}
+use Rattle.queues.specs.Counters.{write-bit}
 pub use Rattle.places.specs.declared.place.Place.{Place}
 pub use Rattle.places.specs.declared.place.Place.the-variants.{Idle, W1, W2, W3, W4, W5, W6, W7, W8, W9, U1}
 pub use Rattle.places.specs.declared.place.Place.the-variants.{U2, U3, U4, U5, U6, U7, U8, U9, U10, R1, R2, R3, R4}
 pub use Rattle.places.specs.declared.place.Place.the-variants.{R5, R6, R7, Writer, Reader}
 
--- the STATUS of a node that waits
-abbrev pub WAIT : ℕ
-WAIT = 2 ^ 32
-
 -- the STATUS by which a holder of level i lets the next one on: take the parent too; at level 1, see to the counters
 abbrev pub told-status : ℕ → ℕ
-told-status i = cond (eqb i 1) (2 ^ 32 + 2) (2 ^ 32 + 1)
+told-status i = cond (eqb i 1) mode-change to-parent
 
 -- a plan: its tree, the number of counters, how many readers a counter admits, how often a level is handed on by the
 -- ranks below one element, and the counter of each rank
@@ -61,6 +60,36 @@ go s p f =
       next-turn = s .next-turn;
     }
 
+-- other STATUS words
+abbrev pub with-statuses : Lock → (ℕ → ℕ) → Lock
+with-statuses s statuses =
+    record {
+      place = s .place;
+      nexts = s .nexts;
+      statuses = statuses;
+      tails = s .tails;
+      arrives = s .arrives;
+      departs = s .departs;
+      node-at = s .node-at;
+      head-turn = s .head-turn;
+      next-turn = s .next-turn;
+    }
+
+-- other ARRIVE and DEPART words
+abbrev pub with-counts : Lock → (ℕ → ℕ) → (ℕ → ℕ) → Lock
+with-counts s arrives departs =
+    record {
+      place = s .place;
+      nexts = s .nexts;
+      statuses = s .statuses;
+      tails = s .tails;
+      arrives = arrives;
+      departs = departs;
+      node-at = s .node-at;
+      head-turn = s .head-turn;
+      next-turn = s .next-turn;
+    }
+
 -- one word is written
 abbrev pub put-next : Lock → ℕ → ℕ → Lock
 put-next s h v =
@@ -77,18 +106,7 @@ put-next s h v =
     }
 
 abbrev pub put-status : Lock → ℕ → ℕ → Lock
-put-status s h v =
-    record {
-      place = s .place;
-      nexts = s .nexts;
-      statuses = upd (s .statuses) h v;
-      tails = s .tails;
-      arrives = s .arrives;
-      departs = s .departs;
-      node-at = s .node-at;
-      head-turn = s .head-turn;
-      next-turn = s .next-turn;
-    }
+put-status s h v = with-statuses s (upd (s .statuses) h v)
 
 -- node x joins the queue of k at its next turn, and is its tail
 abbrev pub join : Lock → ℕ → ℕ → Lock
@@ -136,32 +154,10 @@ free s k =
     }
 
 abbrev pub put-arrive : Lock → ℕ → ℕ → Lock
-put-arrive s c v =
-    record {
-      place = s .place;
-      nexts = s .nexts;
-      statuses = s .statuses;
-      tails = s .tails;
-      arrives = upd (s .arrives) c v;
-      departs = s .departs;
-      node-at = s .node-at;
-      head-turn = s .head-turn;
-      next-turn = s .next-turn;
-    }
+put-arrive s c v = with-counts s (upd (s .arrives) c v) (s .departs)
 
 abbrev pub put-depart : Lock → ℕ → ℕ → Lock
-put-depart s c v =
-    record {
-      place = s .place;
-      nexts = s .nexts;
-      statuses = s .statuses;
-      tails = s .tails;
-      arrives = s .arrives;
-      departs = upd (s .departs) c v;
-      node-at = s .node-at;
-      head-turn = s .head-turn;
-      next-turn = s .next-turn;
-    }
+put-depart s c v = with-counts s (s .arrives) (upd (s .departs) c v)
 
 module _ (L : Plan) (s : Lock) (p : ℕ) where
   -- the rank's node and element at a level, and its counter
@@ -190,12 +186,12 @@ module _ (L : Plan) (s : Lock) (p : ℕ) where
   row (W3 i) = go (join s (k i) (x i)) p (cond (eqb (s .tails (k i)) 0) (W6 i) (W4 i (s .tails (k i))))
   row (W4 i t) = go (put-next s t (x i)) p (W5 i)
   row (W5 i) = cond (eqb (s .statuses (x i)) WAIT) s
-      (cond (leb (s .statuses (x i)) 1000) (go s p Writer)
+      (cond (leb (s .statuses (x i)) most-hand-overs) (go s p Writer)
       (cond (eqb (s .statuses (x i)) (told-status i)) (go s p (W6 i)) s))
   row (W6 i) = go (put-status s (x i) 0) p (cond (leb 2 i) (W1 (pred i)) (W7 0))
-  row (W7 n) = go (put-arrive s n (s .arrives n + 2 ^ 62)) p (next n (W8 0) W7)
+  row (W7 n) = go (put-arrive s n (s .arrives n + write-bit)) p (next n (W8 0) W7)
   row (W8 n) = go s p (W9 n (s .arrives n))
-  row (W9 n a) = go s p (cond (eqb a (2 ^ 62 + s .departs n)) (next n Writer W8) (W8 n))
+  row (W9 n a) = go s p (cond (eqb a (write-bit + s .departs n)) (next n Writer W8) (W8 n))
   row (U1 i) = go s p (U2 i (s .statuses (x i)))
   row (U2 i n) = go s p
       (cond (eqb (s .nexts (x i)) 0) (cond (leb i 2) U4 (U1 (pred i)))
@@ -206,13 +202,13 @@ module _ (L : Plan) (s : Lock) (p : ℕ) where
       (cond (eqb (s .nexts (x 1)) 0) (U6 0)
       (cond (ltb n (L .hand-over-limit p 1)) (U3 1 (s .nexts (x 1)) (suc n)) (U6 0)))
   row (U6 n) = go (put-depart s n 0) p (U7 n (s .departs n))
-  row (U7 n a) = go (put-arrive s n (s .arrives n - (2 ^ 62 + a))) p (next n (U8 1) U6)
+  row (U7 n a) = go (put-arrive s n (s .arrives n - (write-bit + a))) p (next n (U8 1) U6)
   row (U8 i) = go s p (cond (eqb (s .nexts (x i)) 0) (U10 i) (U9 i (s .nexts (x i))))
   row (U9 i t) = go (drop (put-status s t (told-status i)) (k i)) p (done i)
   row (U10 i) = cond (eqb (s .tails (k i)) (x i)) (go (free s (k i)) p (done i)) (go s p (U8 i))
   row R1 = go (put-arrive s c (suc (s .arrives c))) p (cond (ltb (s .arrives c) (L .reader-threshold)) Reader R2)
   row R2 = go (put-arrive s c (pred (s .arrives c))) p R3
-  row R3 = go s p (cond (ltb (s .arrives c) (L .reader-threshold)) R1 (cond (leb (2 ^ 62) (s .arrives c)) R3 R4))
+  row R3 = go s p (cond (ltb (s .arrives c) (L .reader-threshold)) R1 (cond (leb write-bit (s .arrives c)) R3 R4))
   row R4 = go s p (cond (eqb (s .tails (k 1)) 0) R5 R3)
   row R5 = go (put-depart s c 0) p (R6 (s .departs c))
   row (R6 n) = go (put-arrive s c (s .arrives c - n)) p R3
@@ -229,7 +225,7 @@ phase-of (W1 i) w = fresh i
 phase-of (W2 i) w = clean i
 phase-of (W3 i) w = ready i
 phase-of (W4 i t) w = link i t
-phase-of (W5 i) w = cond (eqb w WAIT) (wait i) (cond (leb w 1000) (hold 1) (hold i))
+phase-of (W5 i) w = cond (eqb w WAIT) (wait i) (cond (leb w most-hand-overs) (hold 1) (hold i))
 phase-of (W6 i) w = hold i
 phase-of (W7 n) w = hold 1
 phase-of (W8 n) w = hold 1
@@ -303,7 +299,8 @@ view T s =
 
 -- the rank's own statuses from a level down are counts
 abbrev pub Counts : Plan → (ℕ → ℕ) → ℕ → ℕ → Type 0
-Counts L statuses p from = (j : ℕ) → from ≤ j → j ≤ L .tree .own-level p → statuses (L .tree .node p j) ≤ 1000
+Counts L statuses p from =
+    (j : ℕ) → from ≤ j → j ≤ L .tree .own-level p → statuses (L .tree .node p j) ≤ most-hand-overs
 
 -- what is true of the STATUS words of a rank at its place, and of its fields: below the level where it waits, and
 -- everywhere once it holds the whole machine, they are counts; while it waits its STATUS is WAIT; at W5 it may have
@@ -323,7 +320,7 @@ Sound L statuses p (W8 n) = Counts L statuses p 1
 Sound L statuses p (W9 n a) = Counts L statuses p 1
 Sound L statuses p (U1 i) = (2 ≤ i) × (i ≤ L .tree .own-level p) × Counts L statuses p 1
 Sound L statuses p (U2 i n) = (2 ≤ i) × (i ≤ L .tree .own-level p) × Counts L statuses p 1
-Sound L statuses p (U3 i t n) = (n ≤ 1000) × Counts L statuses p 1
+Sound L statuses p (U3 i t n) = (n ≤ most-hand-overs) × Counts L statuses p 1
 Sound L statuses p U4 = Counts L statuses p 1
 Sound L statuses p (U5 n) = Counts L statuses p 1
 Sound L statuses p (U6 n) = Counts L statuses p 1
