@@ -6,6 +6,7 @@ ghost use mathlib.Core.List.{_++_};
 ghost use lib.ListN.{drop, length};
 ghost use Rattle.std.specs.Vec.{made};
 ghost use Rattle.plan.specs.Trees.{tree-of};
+ghost use Rattle.law.specs.Beyond.{Beyond-kept};
 ghost use Rattle.law.specs.Calls.{answers as answers-to, called, laid, ran, state};
 ghost use Rattle.law.specs.Law.{Law};
 ghost use Rattle.job.specs.Outcomes.{job-answer, job-answers, job-state};
@@ -74,6 +75,7 @@ fn run_calls<M: Memory>(
 /// A whole job: layout, then the calls; the answer of each call into its place of the caller's table.
 /// Too few records or homes are refused by 5, then a table shorter than the calls by 15, and nothing changes.
 /// Otherwise answers, words and records are the defined ones, and the law holds of this plan and these calls.
+/// The homes behind the lock's and the records behind its ranks' stay as they were.
 pub fn run_job<M: Memory>(
     plan: &Plan,
     memory: &mut M,
@@ -92,6 +94,9 @@ pub fn run_job<M: Memory>(
     ensures table { λ _. ⌜ now (answers .exit)
         ≡ job-answers (tree-of (now (plan .entry))) (M·ReadMemory .words (now (memory .entry)))
         (now (records .entry)) (now (calls .entry)) (now (answers .entry)) ⌝ }
+    ensures beyond { λ _. ⌜ Beyond-kept (tree-of (now (plan .entry)))
+        (state (M·ReadMemory .words (now (memory .entry))) (now (records .entry)))
+        (state (M·ReadMemory .words (now (memory .exit))) (now (records .exit))) ⌝ }
     ensures law { λ r. ⌜ made r (λ _. Law (tree-of (now (plan .entry)))
         (laid (tree-of (now (plan .entry))) (M·ReadMemory .words (now (memory .entry))) (now (records .entry)))
         (now (calls .entry))) ⌝ }

@@ -1,3 +1,4 @@
+pub mod Beyond
 pub mod Bridge
 pub mod Writes
 pub mod InRange

@@ -1,3 +1,4 @@
+pub mod Beyond
 pub mod Calls
 pub mod Presence
 pub mod Exclusion

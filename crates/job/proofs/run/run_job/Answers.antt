@@ -1,11 +1,13 @@
 use mathlib.Core.Bool.{true}
-use mathlib.Core.Path.{_≡_, ap, sym, _∙_}
+use mathlib.Core.Path.{_≡_, ap, ap₂, subst, sym, _∙_}
 use native.Mathlib.Omega.{arith}
 use Rattle.std.proofs.shelf.Tests.{le-leb}
 use Rattle.plan.specs.Trees.{tree-of}
 use Rattle.lock.specs.Outcomes.{roomy}
+use Rattle.law.proofs.Beyond.{beyond-kept}
 use Rattle.law.proofs.Job.{every-job}
-use Rattle.law.specs.Calls.{State}
+use Rattle.law.specs.Beyond.{Beyond-kept}
+use Rattle.law.specs.Calls.{State, laid, ran, state}
 use Rattle.job.proofs.Whole.{job-accepted, job-end, job-laid, job-table}
 use Rattle.job.proofs.run.run_job.Needs as need
 use Rattle.job.specs.Outcomes.{answers-fit}
@@ -29,5 +31,10 @@ returns g c =
       words = c .run-calls .ensures .words ∙ ap (λ (s : State). s .words) end;
       records = c .run-calls .ensures .records ∙ ap (λ (s : State). s .records) end;
       table = c .run-calls .ensures .table ∙ job-table t ws ws₁ rs rs₁ cs out room fit ew er;
+      beyond =
+          subst (λ (s : State). Beyond-kept t (state ws rs) s)
+          (sym (ap₂ state (c .run-calls .ensures .words) (c .run-calls .ensures .records)
+          ∙ ap (λ (s : State). ran t s cs) (ap₂ state ew er)))
+          (beyond-kept (c .args .plan .now) ws rs cs);
       law = every-job (c .args .plan .now) ws rs cs (job-laid t ws ws₁ rs rs₁ cs out room fit ew er);
     }
