@@ -1,4 +1,5 @@
 //! The worked cases: one table, proved of the definitions and run against the code.
+#![tactic(auto)]
 
 pub mod cases;
 #[cfg(test)]

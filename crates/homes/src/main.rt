@@ -1,5 +1,6 @@
 //! Reads an order from standard input and prints where everything of its plan lives, or what is wrong with it.
 //! All text is made by `listing`; here it is only read and printed.
+#![tactic(auto)]
 
 use listing::report::report;
 use order::read::LONGEST_ORDER;

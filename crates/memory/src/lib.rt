@@ -1,4 +1,5 @@
 //! Memories of shared words behind one interface: homes of five words each, in words, in bytes, or joined.
+#![tactic(auto)]
 
 mod byte;
 mod endian;

@@ -1,4 +1,5 @@
 //! Tests of the three memories, and what a caller of another crate can promise by their contracts.
+#![tactic(auto)]
 
 mod caller;
 mod single;

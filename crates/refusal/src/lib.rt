@@ -1,4 +1,5 @@
 //! The refusal sheet: every reason for which a call is refused, and its number.
+#![tactic(auto)]
 
 ghost use Rattle.std.specs.Prelude.{◌≡◌};
 ghost use Rattle.refusal.specs.Numbers.{number_of};

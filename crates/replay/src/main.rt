@@ -1,5 +1,6 @@
 //! Runs many orders, one after another, for the comparison with the model: each is four bytes of length, the most
 //! significant first, and then the order. Prints the lines of each run, and behind them a line `end`.
+#![tactic(auto)]
 
 use std::io::{Read, Write};
 use transcript::program::transcribe;

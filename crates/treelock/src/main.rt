@@ -1,5 +1,6 @@
 //! Reads an order from standard input, runs it, and prints the lines of the run.
 //! All work is done by `transcript`; here bytes are only read and printed.
+#![tactic(auto)]
 
 use order::read::LONGEST_ORDER;
 use std::io::{Read, Write};
