@@ -8,15 +8,15 @@ pub loop-i-preserved : goal.loop-i-preserved
 loop-i-preserved g c =
     let t = tree_of c.args.plan.now in
     let ws = g.M.ReadMemory.words c.loop-i.memory in
-    let vs = g.M.ReadMemory.words c.run-call.new.memory in
+    let vs = g.M.ReadMemory.words c.run_call.new.memory in
     let i = c.loop-i.i in
-    let e = c.run-call.ensures in
+    let e = c.run_call.ensures in
     let cs = c.args.calls.now in (
-      ran_more t cs i _ ws vs c.loop-i.records c.run-call.new.records c.loop-i-test.true e.words
+      ran_more t cs i _ ws vs c.loop-i.records c.run_call.new.records c.loop-i-test.true e.words
           e.records _ c.loop-i.invariant.0,
-      answers_more t cs i _ ws vs c.loop-i.records c.run-call.new.records c.loop-i-test.true e.words
-          e.records c.run-call.result c.loop-i.answers _ (omega arith) e.value c.loop-i.invariant.1,
-      behind_more c.loop-i.answers c.args.answers.now c.run-call.result i c.loop-i.invariant.2,
+      answers_more t cs i _ ws vs c.loop-i.records c.run_call.new.records c.loop-i-test.true e.words
+          e.records c.run_call.result c.loop-i.answers _ (omega arith) e.value c.loop-i.invariant.1,
+      behind_more c.loop-i.answers c.args.answers.now c.run_call.result i c.loop-i.invariant.2,
     )
 
 pub returns : goal.returns

@@ -48,8 +48,8 @@ pub returns : goal.returns
 returns c =
     let a = c.args.at in
     let xs = c.args.bytes.now in
-    let ys = c.copy-from-slice.new.self in
-    let e = c.copy-from-slice.ensures.after ∙ c.to-be-bytes-spelt.ensures in
+    let ys = c.copy_from_slice.new.self in
+    let e = c.copy_from_slice.ensures.after ∙ c.to_be_bytes-spelt.ensures in
     record {
       before = take_put a (a + 8 - a) xs ys (omega arith);
       here = stored_word a c.args.word xs ys c.requires (omega arith) e;

@@ -18,19 +18,19 @@ returns-then-n-lt10 t c =
 pub put-requires-else-n-lt10 : goal.put-requires-else-n-lt10
 put-requires-else-n-lt10 t c =
     let small : c.args.n < 65536 = omega arith in
-    omega (arith, c.put-decimal-behind.ensures.value, fewer_digits c.args.n small)
+    omega (arith, c.put_decimal-behind.ensures.value, fewer_digits c.args.n small)
 
-pub overflow-add-result-else-n-lt10 : goal.overflow-add-result-else-n-lt10
-overflow-add-result-else-n-lt10 t c =
+pub overflow_add-result-else-n-lt10 : goal.overflow_add-result-else-n-lt10
+overflow_add-result-else-n-lt10 t c =
     let small : c.args.n < 65536 = omega arith in
-    omega (arith, c.put-decimal-behind.ensures.value, fewer_digits c.args.n small)
+    omega (arith, c.put_decimal-behind.ensures.value, fewer_digits c.args.n small)
 
 pub returns-else-n-lt10 : goal.returns-else-n-lt10
 returns-else-n-lt10 t c =
     let n = c.args.n in
     let small : n < 65536 = omega arith in
     let h : 10 ≤ n = c.if-n-lt10.false in
-    let e = c.put-decimal-behind.ensures in
+    let e = c.put_decimal-behind.ensures in
     let out = c.args.out.now in
     let at = c.args.at in
     record {
@@ -38,7 +38,7 @@ returns-else-n-lt10 t c =
       bound = omega (arith, e.value, fewer_digits n small);
       buffer =
           c.put-else-n-lt10.ensures
-          ∙ ap (λ x. pasted x c.put-decimal-behind.result ((48 + n % 10) ∷ [])) e.buffer
+          ∙ ap (λ x. pasted x c.put_decimal-behind.result ((48 + n % 10) ∷ [])) e.buffer
           ∙ ap (λ k. pasted (pasted out at (decimal (n / 10))) k ((48 + n % 10) ∷ [])) e.value
           ∙ paste_last out at n (omega arith) h small;
     }

@@ -11,18 +11,18 @@ returns c =
     let reply = c.args.reply in
     let out = c.args.out.now in
     let room : leb 24 (length out) ≡ true = le-leb 24 (length out) (omega arith) in
-    let l = c.letter-of.ensures in
-    let p = c.rank-of.ensures in
-    let d = c.put-decimal-at.ensures in
-    let e = c.put-reply-end.ensures in
-    let same : length (decimal c.rank-of.result) ≡ length (decimal (rank call)) = ap (λ n. length (decimal n)) p in
-    let n : c.put-reply-end.result ≡ length (reply_line call reply) =
+    let l = c.letter_of.ensures in
+    let p = c.rank_of.ensures in
+    let d = c.put_decimal-at.ensures in
+    let e = c.put_reply-end.ensures in
+    let same : length (decimal c.rank_of.result) ≡ length (decimal (rank call)) = ap (λ n. length (decimal n)) p in
+    let n : c.put_reply-end.result ≡ length (reply_line call reply) =
     simp length-append (omega (arith, d.value, e.value, same))
     in
-    let whole : c.put-reply-end.new.out ≡ overlaid (reply_line call reply) out =
-    (three_puts out c.put.new.out c.put-decimal-at.new.out c.put-reply-end.new.out
-    (c.letter-of.result ∷ 32 ∷ []) (decimal c.rank-of.result) (reply_words reply) 0 2
-    c.put-decimal-at.result (omega arith) c.put.ensures d.buffer e.buffer (omega arith) d.value
+    let whole : c.put_reply-end.new.out ≡ overlaid (reply_line call reply) out =
+    (three_puts out c.put.new.out c.put_decimal-at.new.out c.put_reply-end.new.out
+    (c.letter_of.result ∷ 32 ∷ []) (decimal c.rank_of.result) (reply_words reply) 0 2
+    c.put_decimal-at.result (omega arith) c.put.ensures d.buffer e.buffer (omega arith) d.value
     ∙ ap₂ (λ x y. pasted out 0 (x ∷ 32 ∷ (decimal y ++ reply_words reply))) l p
     ∙ pasted_front out (reply_line call reply))
     in
@@ -30,5 +30,5 @@ returns c =
       value = rw (room, n);
       buffer = rw room whole;
       short = omega (arith, d.bound, e.bound);
-      line = front_of c.put-reply-end.new.out (reply_line call reply) out c.put-reply-end.result whole n;
+      line = front_of c.put_reply-end.new.out (reply_line call reply) out c.put_reply-end.result whole n;
     }

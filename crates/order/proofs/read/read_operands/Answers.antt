@@ -3,12 +3,12 @@ use Rattle.std.proofs.lemmas.Result.{err_from_is_err_and}
 use Rattle.order.proofs.Runs.{operands_more, run_bad, run_more}
 use Rattle.order.proofs.read.read_operands.Goals as goal
 
-pub returns-in-err-check-command : goal.returns-in-err-check-command
-returns-in-err-check-command c =
-    let p = err_from_is_err_and c.from-residual.result c.from-residual.ensures.1 in
+pub returns-in_err-check_command : goal.returns-in_err-check_command
+returns-in_err-check_command c =
+    let p = err_from_is_err_and c.from_residual.result c.from_residual.ensures.1 in
     rw (p.1, p.2)
     (λ _. run_bad c.args.order.now c.args.letter c.args.at c.args.count c.loop-j.j _
-    c.loop-j-test.true c.loop-j.invariant.0 (sym c.in-err-check-command.ensures))
+    c.loop-j-test.true c.loop-j.invariant.0 (sym c.in_err-check_command.ensures))
 
 pub loop-j-preserved : goal.loop-j-preserved
 loop-j-preserved c =

@@ -4,5 +4,5 @@ use Rattle.order.proofs.write.put.Goals as goal
 
 pub returns : goal.returns
 returns c =
-    part_pasted c.args.out.now _ c.args.bytes.now c.args.at _ c.copy-from-slice.ensures.after
+    part_pasted c.args.out.now _ c.args.bytes.now c.args.at _ c.copy_from_slice.ensures.after
     (omega arith)

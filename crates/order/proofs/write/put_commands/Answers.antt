@@ -13,7 +13,7 @@ pub loop-j-preserved : goal.loop-j-preserved
 loop-j-preserved c =
     let j = c.loop-j.j in
     c.put.ensures
-    ∙ ap (pasted c.loop-j.out (c.args.at + 3 * j)) c.pair-command.ensures
+    ∙ ap (pasted c.loop-j.out (c.args.at + 3 * j)) c.pair_command.ensures
     ∙ commands_more c.args.out.now c.loop-j.out c.args.operands.now c.args.at j c.args.letter
     (get_or c.args.operands.now j 0) (omega arith) c.loop-j-test.true refl c.loop-j.invariant
 

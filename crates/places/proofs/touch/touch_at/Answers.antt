@@ -4,5 +4,5 @@ use Rattle.places.proofs.touch.touch_at.Goals as goal
 
 pub returns : goal.returns
 returns c =
-    looked_up (tree_of c.args.plan.now) c.args.rank c.args.place c.record-of.result
-    c.home-at-home.result c.record-of.ensures.value c.home-at-home.ensures
+    looked_up (tree_of c.args.plan.now) c.args.rank c.args.place c.record_of.result
+    c.home_at-home.result c.record_of.ensures.value c.home_at-home.ensures

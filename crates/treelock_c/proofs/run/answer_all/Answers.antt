@@ -10,14 +10,14 @@ loop-i-preserved g c =
     let es = c.loop-i.table in
     let i = c.loop-i.i in
     let ws = g.M.ReadMemory.words c.loop-i.memory in
-    let vs = g.M.ReadMemory.words c.answer-one-answer.new.memory in
+    let vs = g.M.ReadMemory.words c.answer_one-answer.new.memory in
     let rs = c.loop-i.records in
-    let qs = c.answer-one-answer.new.records in
-    let e = c.answer-one-answer.ensures in
+    let qs = c.answer_one-answer.new.records in
+    let e = c.answer_one-answer.ensures in
     let l : i < length es = omega arith in (
-      ran_more t es i _ ws vs rs qs l e.words e.records c.with-answer.result _ c.loop-i.invariant.0,
-      replies_more t es i _ ws vs rs qs l e.words e.records c.with-answer.result c.answer-one-answer.result
-          _ c.with-answer.ensures e.value c.loop-i.invariant.1,
+      ran_more t es i _ ws vs rs qs l e.words e.records c.with_answer.result _ c.loop-i.invariant.0,
+      replies_more t es i _ ws vs rs qs l e.words e.records c.with_answer.result c.answer_one-answer.result
+          _ c.with_answer.ensures e.value c.loop-i.invariant.1,
     )
 
 pub returns : goal.returns

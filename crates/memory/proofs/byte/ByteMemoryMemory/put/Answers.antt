@@ -6,7 +6,7 @@ use Rattle.memory.proofs.byte.ByteMemoryMemory.put.Goals as goal
 
 pub returns : goal.returns
 returns c =
-    let i = c.in-ok-at.ensures.inside in
+    let i = c.in_ok-at.ensures.inside in
     let home = c.args.home in
     let offset = c.args.offset in
     let word = c.args.word in

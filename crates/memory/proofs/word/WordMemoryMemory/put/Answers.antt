@@ -6,7 +6,7 @@ use Rattle.memory.proofs.word.WordMemoryMemory.put.Goals as goal
 
 pub returns : goal.returns
 returns c =
-    let i = c.in-ok-at.ensures.inside in
+    let i = c.in_ok-at.ensures.inside in
     let xs = c.args.self.now.table.now in
     let n = c.count.ensures.value in
     let t = table_set xs c.args.home c.args.offset c.args.word i.0 (omega arith) i.2 in
