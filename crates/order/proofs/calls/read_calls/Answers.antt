@@ -18,4 +18,4 @@ loop-k-preserved c =
     call_more c.args.order.now c.args.start c.loop-k.k (vec_items c.loop-k.calls) c.loop-k.invariant
     c.in-Ok.call (vec_items c.push.new.self) c.loop-k-test.true (omega arith)
     (sym c.in-Ok.ensures)
-    (pushed (c.in-Ok.call ∷ []) refl c.in_ok-push.was c.push.ensures.items)
+    (pushed (c.in-Ok.call ∷ []) refl c.in_ok-push-in-Ok.was c.push.ensures.items)
