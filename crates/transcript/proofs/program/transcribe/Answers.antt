@@ -17,8 +17,8 @@ returns-in_err-answers c =
 pub returns-in-Ok : goal.returns-in-Ok
 returns-in-Ok c =
     let bs = c.args.order.now in
-    let window = c.as_mut_slice.ensures.value ∙ c.in_ok-window.ensures.items-if-clones-equal (λ y e. e) in
-    let records = c.as_mut_slice-2.ensures.value ∙ c.in_ok-records.ensures.items-if-clones-equal (λ y e. e) in
+    let window = c.as_mut_slice.ensures.value ∙ c.in_ok-window.ensures.items_if_clones_equal (λ y e. e) in
+    let records = c.as_mut_slice-2.ensures.value ∙ c.in_ok-records.ensures.items_if_clones_equal (λ y e. e) in
     let answers = c.as_mut_slice-3.ensures.len ∙ c.in_ok-answers.ensures.len in
     let told = c.in-Ok.ensures in
     record {
@@ -28,8 +28,8 @@ returns-in-Ok c =
 
 pub unreachable-requires : goal.unreachable-requires
 unreachable-requires c =
-    let window = c.as_mut_slice.ensures.value ∙ c.in_ok-window.ensures.items-if-clones-equal (λ y e. e) in
-    let records = c.as_mut_slice-2.ensures.value ∙ c.in_ok-records.ensures.items-if-clones-equal (λ y e. e) in
+    let window = c.as_mut_slice.ensures.value ∙ c.in_ok-window.ensures.items_if_clones_equal (λ y e. e) in
+    let records = c.as_mut_slice-2.ensures.value ∙ c.in_ok-records.ensures.items_if_clones_equal (λ y e. e) in
     let answers = c.as_mut_slice-3.ensures.len ∙ c.in_ok-answers.ensures.len in
     let numbered : is_some (number_of c.in-Err.refusal) ≡ true =
     ap is_some (sym c.number.ensures) ∙ sym c.if-is_some.ensures

@@ -8,7 +8,7 @@ use Rattle.transcript.proofs.run.run_order.Goals as goal
 pub tell_run-requires : goal.tell_run-requires
 tell_run-requires c =
     let w = whole_of c.in-Ok.read in
-    let e = c.in_ok-run_job.ensures in (
+    let e = c.in_ok-run_job-in-Ok.ensures in (
       fits_here c.args.order.now c.args.window.now c.args.records.now c.args.answers.now
           c.run_job.new.answers w _ _ c.in-Ok.ensures c.new-memory.ensures.words
           c.as_slice.ensures.value e.value e.table,
@@ -25,7 +25,7 @@ tell_fault-requires c =
 pub returns-in_ok-text : goal.returns-in_ok-text
 returns-in_ok-text c =
     let w = whole_of c.in-Ok.read in
-    let e = c.in_ok-run_job.ensures in
+    let e = c.in_ok-run_job-in-Ok.ensures in
     record {
       value =
           lines_here c.args.order.now c.args.window.now c.args.records.now c.args.answers.now

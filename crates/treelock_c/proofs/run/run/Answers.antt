@@ -10,8 +10,8 @@ returns-in_err-records c =
 
 pub returns : goal.returns
 returns c =
-    let words = c.as_mut_slice.ensures.value ∙ c.in_ok-words.ensures.items-if-clones-equal (λ y e. e) in
-    let records = c.as_mut_slice-lent.ensures.value ∙ c.in_ok-records.ensures.items-if-clones-equal (λ y e. e) in
+    let words = c.as_mut_slice.ensures.value ∙ c.in_ok-words.ensures.items_if_clones_equal (λ y e. e) in
+    let records = c.as_mut_slice-lent.ensures.value ∙ c.in_ok-records.ensures.items_if_clones_equal (λ y e. e) in
     record {
       value =
           told_all c.args.plan.now c.args.table.now c.in-Ok.read _ _ _ _ _ _ c.in-Ok.ensures.value
