@@ -22,15 +22,15 @@ tell_fault-requires c =
     in
     fault_near c.args.order.now c.in-Err.fault (c.in-Err.ensures numbered)
 
-pub returns-in_ok-text : goal.returns-in_ok-text
-returns-in_ok-text c =
+pub returns-in_ok-text-in-Ok : goal.returns-in_ok-text-in-Ok
+returns-in_ok-text-in-Ok c =
     let w = whole_of c.in-Ok.read in
     let e = c.in_ok-run_job-in-Ok.ensures in
     record {
       value =
           lines_here c.args.order.now c.args.window.now c.args.records.now c.args.answers.now
           c.run_job.new.answers w _ _ c.in-Ok.ensures c.new-memory.ensures.words
-          c.as_slice.ensures.value e.value _ e.table c.in_ok-text.ensures;
+          c.as_slice.ensures.value e.value _ e.table c.in_ok-text-in-Ok.ensures;
       law =
           law_here c.args.order.now c.args.window.now c.args.records.now c.args.answers.now
           c.run_job.new.answers w _ _ c.in-Ok.ensures c.new-memory.ensures.words
