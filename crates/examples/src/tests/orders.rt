@@ -59,7 +59,7 @@ static FAULTS: [Told; 4] = [
 #[test]
 fn a_larger_run(rt: HostRuntime) -> Result<(), Fail> {
     let text = transcribe(rt.alloc(), &LARGER)?;
-    assert!(rt; text.as_slice() == &LARGER_LINES);
+    assert!(rt; text.as_slice() == LARGER_LINES.as_slice());
     Ok(())
 }
 
@@ -87,6 +87,6 @@ fn faults_before_the_calls(rt: HostRuntime) -> Result<(), Fail> {
 fn an_order_that_is_too_long(rt: HostRuntime) -> Result<(), Fail> {
     let heap = rt.alloc();
     let order = vec![in heap; 72u8; 65536]?;
-    assert!(rt; transcribe(heap, order.as_slice())?.as_slice() == b"bad 16 at 65535\n");
+    assert!(rt; transcribe(heap, order.as_slice())?.as_slice() == b"bad 16 at 65535\n".as_slice());
     Ok(())
 }
