@@ -1,8 +1,7 @@
 -- A job that is run: layout, then its calls.
-use Rattle.std.proofs.Common.{◌≡◌, Bool, true, cond, ◌&&◌, List, ◌++◌, length, drop, Ok, Err, Result, sym, ap, ◌∙◌, ap₂}
+use Rattle.std.proofs.Common.{◌≡◌, true, cond, ◌&&◌, List, ◌++◌, length, drop, Ok, Result, sym, ap, ◌∙◌, ap₂}
 use Rattle.std.proofs.lemmas.Bool.{and_from}
 use Rattle.refusal.specs.declared.Refusal.{Refusal}
-use Rattle.refusal.specs.declared.Refusal.TheVariants.{TooShort}
 use Rattle.memory.specs.Words.{Words}
 use Rattle.plan.specs.Trees.{Tree}
 use Rattle.places.specs.declared.answer.Answer.{Answer}

@@ -1,5 +1,5 @@
 -- What a job answers and leaves.
-use Rattle.std.specs.Prelude.{ℕ, Bool, cond, ◌&&◌, List, ◌++◌, length, drop, Ok, Err, Result, nat_le}
+use Rattle.std.specs.Prelude.{Bool, cond, ◌&&◌, List, ◌++◌, length, drop, Ok, Err, Result, nat_le}
 use Rattle.refusal.specs.declared.Refusal.{Refusal}
 use Rattle.refusal.specs.declared.Refusal.TheVariants.{BufferTooSmall, TooShort}
 use Rattle.memory.specs.Words.{Words}

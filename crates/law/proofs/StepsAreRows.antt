@@ -25,7 +25,7 @@ use Rattle.lock.specs.Steps.{followed, row_next, row_words, stepped_from, steppe
 use Rattle.queues.specs.Machine.{On}
 use Rattle.queues.specs.Table.{Place, Idle, W1, W2, W3, W4, W5, W6, W7, W8, W9, U1, U2, U3, U4, U5, U6, U7, U8, U9}
 use Rattle.queues.specs.Table.{U10, R1, R2, R3, R4, R5, R6, R7, Writer, Reader, WAIT, told_status, Plan, Lock, go}
-use Rattle.queues.specs.Table.{put_status, put_arrive, put_depart, free, done, next, row, Sound, Counts}
+use Rattle.queues.specs.Table.{put_status, put_arrive, put_depart, free, done, row, Sound, Counts}
 use Rattle.queues.specs.Invariant.{Safe}
 use Rattle.queues.proofs.Phases.{upd_same, upd_other, told_large}
 use Rattle.law.proofs.Bridge.{machine_plan, Geometry, Ranged, Shows, Stepped, Goes, gives, effect}

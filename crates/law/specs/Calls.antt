@@ -1,5 +1,5 @@
 -- A job: a list of calls, right after an accepted layout. Refused calls are part of it and change nothing.
-use Rattle.std.specs.Prelude.{ℕ, List, [], ◌∷◌, Result}
+use Rattle.std.specs.Prelude.{List, [], ◌∷◌, Result}
 use Rattle.refusal.specs.declared.Refusal.{Refusal}
 use Rattle.memory.specs.Words.{Words}
 use Rattle.plan.specs.Trees.{Tree}

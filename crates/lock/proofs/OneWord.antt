@@ -1,16 +1,15 @@
 -- A step changes at most the one word that touch names, and at most the one record of its rank.
-use Rattle.std.proofs.Common.{◌≡◌, ℕ, suc, ◌-◌, ◌≤◌, Bool, true, false, cond, ◌&&◌, leb, ◌≢◌, List, length, get_or, set, Some, None, Ok, Err, Option, Result, refl, arith}
+use Rattle.std.proofs.Common.{◌≡◌, ℕ, ◌-◌, ◌≤◌, Bool, true, false, cond, ◌&&◌, leb, ◌≢◌, List, Some, None, Ok, Err, Option, Result, refl, arith}
 use Rattle.std.proofs.lemmas.List.{get_or-set_other, length-set}
 use Rattle.std.proofs.lemmas.Bool.Decides.{nat_tests}
 use Rattle.refusal.specs.declared.Refusal.{Refusal}
 use Rattle.refusal.specs.declared.Refusal.TheVariants.{TooShort, UnknownRank}
 use Rattle.memory.proofs.Locality.{performed_local}
-use Rattle.memory.specs.Operations.{Local}
 use Rattle.memory.specs.Words.{Words}
 use Rattle.plan.specs.Trees.{Tree, has_rank, homes}
 use Rattle.places.specs.Records.{parsed, recorded}
 use Rattle.places.specs.Table.{access_of}
-use Rattle.places.specs.Touches.{touched, touched_from, touching}
+use Rattle.places.specs.Touches.{touched_from, touching}
 use Rattle.places.specs.declared.access.Access.{Access}
 use Rattle.places.specs.declared.follow.Next.{Next}
 use Rattle.places.specs.declared.place.Place.{Place}
@@ -18,7 +17,7 @@ use Rattle.places.specs.declared.place.Place.TheVariants.{Idle}
 use Rattle.places.specs.declared.record.Record.{Record}
 use Rattle.places.specs.declared.touch.Touch.{Touch}
 use Rattle.lock.specs.Outcomes.{Outcome, enough_records, placed, record_at, refused}
-use Rattle.lock.specs.Steps.{row_next, row_words, stepped, stepped_from, stepped_to}
+use Rattle.lock.specs.Steps.{row_next, row_words, stepped_from, stepped_to}
 use Rattle.lock.specs.Touched.{OneWord, OthersKept, TouchesOnly}
 
 -- no word changes

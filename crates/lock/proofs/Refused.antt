@@ -1,5 +1,5 @@
 -- A refused row changes no word.
-use Rattle.std.proofs.Common.{◌≡◌, ℕ, cond, IfErr, Some, None, Ok, Err, Option, Result, refl, arith}
+use Rattle.std.proofs.Common.{◌≡◌, ℕ, IfErr, Ok, Err, Result, refl, arith}
 use Rattle.std.proofs.lemmas.Bool.Decides.{nat_tests}
 use Rattle.refusal.specs.declared.Refusal.{Refusal}
 use Rattle.memory.specs.Operations.{answered, performed}
@@ -8,7 +8,6 @@ use Rattle.memory.specs.declared.operations.Operation.{Operation}
 use Rattle.memory.specs.declared.operations.Operation.TheVariants.{Get, Put, Swap, Add, Cas}
 use Rattle.plan.specs.Trees.{Tree}
 use Rattle.places.specs.Table.{access_of, next_of}
-use Rattle.places.specs.declared.follow.Next.{Next}
 use Rattle.places.specs.declared.place.Place.{Place}
 use Rattle.places.specs.declared.place.Place.TheVariants.{Idle, W1, W2, W3, W4, W5, W6, W7, W8, W9}
 use Rattle.places.specs.declared.place.Place.TheVariants.{U1, U2, U3, U4, U5, U6, U7, U8, U9, U10}

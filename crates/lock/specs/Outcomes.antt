@@ -1,5 +1,5 @@
 -- What a call leaves: its answer or refusal, all words and all records.
-use Rattle.std.specs.Prelude.{ℕ, ◌-◌, Bool, ◌&&◌, List, length, Ok, Err, Result, nat_le, slice_index_or, slice_set}
+use Rattle.std.specs.Prelude.{ℕ, ◌-◌, Bool, ◌&&◌, List, length, Err, Result, nat_le, slice_index_or, slice_set}
 use Rattle.refusal.specs.declared.Refusal.{Refusal}
 use Rattle.memory.specs.Words.{Words}
 use Rattle.plan.specs.Trees.{Tree, homes}

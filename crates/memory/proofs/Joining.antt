@@ -1,6 +1,6 @@
 -- A change in the second of two joined memories is the same change at its home of the joined one,
 -- and leaves the homes that the joined memory drops.
-use Rattle.std.proofs.Common.{◌≡◌, ℕ, ◌+◌, ◌-◌, ◌%◌, ◌^◌, ◌<◌, ◌≤◌, Bool, true, false, cond, eqb, refl, ap, ◌∙◌, rules}
+use Rattle.std.proofs.Common.{◌≡◌, ℕ, ◌+◌, ◌-◌, ◌%◌, ◌^◌, ◌<◌, ◌≤◌, Bool, true, false, cond, eqb, ap, ◌∙◌, rules}
 use Rattle.memory.specs.Words.{Words, got, written, added, exchanged}
 use Rattle.memory.specs.Layout.{joined_words, spare_words}
 

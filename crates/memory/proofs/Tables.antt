@@ -1,5 +1,5 @@
 -- A write to one place of a table changes one word of one home, and no spare word.
-use Rattle.std.proofs.Common.{◌≡◌, ℕ, ◌*◌, ◌/◌, ◌<◌, ◌≤◌, min, List, length, get_or, drop, set, ap, ◌∙◌, arith, length-set}
+use Rattle.std.proofs.Common.{◌≡◌, ℕ, ◌*◌, ◌/◌, ◌<◌, ◌≤◌, min, List, get_or, drop, set, ap, ◌∙◌, arith, length-set}
 use Rattle.std.proofs.lemmas.List.{drop-set-lt}
 use Rattle.memory.specs.Words.{storing}
 use Rattle.memory.specs.Layout.{place_of, row_words, homes_in, table_words, spare}

@@ -1,5 +1,5 @@
 -- What a whole order can hold: a plan of lawful sizes, and no more calls than a third of its bytes.
-use Rattle.std.proofs.Common.{◌≡◌, ℕ, zero, suc, ◌+◌, ◌-◌, ◌*◌, ◌≤◌, Bool, true, false, cond, eqb, ltb, leb, List, [], length, get_or, Some, None, Ok, Err, Result, sym, refl, ap, ◌∙◌, subst, arith}
+use Rattle.std.proofs.Common.{◌≡◌, ℕ, zero, suc, ◌+◌, ◌-◌, ◌*◌, ◌≤◌, Bool, true, false, cond, eqb, ltb, leb, List, [], length, get_or, None, Ok, Err, Result, sym, refl, ap, ◌∙◌, subst, arith}
 use Rattle.std.proofs.lemmas.Bool.{eqb-true, ltb-false}
 use Rattle.refusal.specs.declared.Refusal.{Refusal}
 use Rattle.refusal.specs.declared.Refusal.TheVariants.{PlanParent, PlanRank, PlanSize, PlanThreshold}
@@ -7,8 +7,8 @@ use Rattle.plan.proofs.Facts.{Sizes, sizes_of}
 use Rattle.plan.specs.Trees.{Tree, parents_right, planned, ranks_right, sizes_right, thresholds_right}
 use Rattle.law.specs.declared.call.Call.{Call}
 use Rattle.order.specs.Bytes.{pair_at}
-use Rattle.order.specs.Calls.{Script, call_at, call_of, first_then, script, script_at, script_from}
-use Rattle.order.specs.Commands.{bad, size, then, letter_L, letter_R, letter_S, letter_W}
+use Rattle.order.specs.Calls.{Script, call_at, call_of, first_then, script, script_from}
+use Rattle.order.specs.Commands.{size, then, letter_L, letter_R, letter_S, letter_W}
 use Rattle.order.specs.Reading.{Reading, at_go, commands_checked, go_place, reading, tree_in}
 use Rattle.order.specs.Whole.{Whole, read_whole, with_calls}
 use Rattle.order.specs.declared.fault.Fault.{Fault}

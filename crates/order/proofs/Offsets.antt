@@ -1,13 +1,12 @@
 -- The offset of a fault lies in the order or at its end.
-use Rattle.std.proofs.Common.{◌≡◌, ℕ, zero, suc, ◌+◌, ◌*◌, ◌≤◌, Bool, true, false, cond, eqb, ltb, leb, List, [], length, get_or, Some, None, Ok, Err, Option, Result, sym, refl, ◌∙◌, subst, arith}
+use Rattle.std.proofs.Common.{◌≡◌, ℕ, zero, suc, ◌+◌, ◌*◌, ◌≤◌, Bool, true, false, cond, eqb, ltb, leb, List, [], length, get_or, Some, None, Ok, Err, Option, Result, refl, subst, arith}
 use Rattle.std.proofs.lemmas.Bool.{eqb-true, ltb-false, leb-false}
 use Rattle.refusal.specs.declared.Refusal.{Refusal}
-use Rattle.refusal.specs.declared.Refusal.TheVariants.{OrderTooLong}
 use Rattle.plan.specs.Trees.{Tree, planned}
 use Rattle.law.specs.declared.call.Call.{Call}
 use Rattle.order.specs.Bytes.{pair_at}
 use Rattle.order.specs.Calls.{Script, call_at, call_of, first_then, script, script_at, script_from}
-use Rattle.order.specs.Commands.{bad, checked, run, size, then, letter_E, letter_G, letter_H, letter_K}
+use Rattle.order.specs.Commands.{checked, run, size, then, letter_E, letter_G, letter_H, letter_K}
 use Rattle.order.specs.Commands.{letter_L, letter_R, letter_S, letter_W}
 use Rattle.order.specs.Reading.{at_go, commands_checked, go_place, parents_due, ranks_due, ranks_place, reading, tree_in}
 use Rattle.order.specs.Reading.{Reading}

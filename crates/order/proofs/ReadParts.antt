@@ -1,10 +1,10 @@
 -- The reader's checks and parts, put together.
-use Rattle.std.proofs.Common.{◌≡◌, ℕ, ◌+◌, ◌-◌, ◌*◌, ◌≤◌, false, ltb, List, length, Ok, Err, sym, ◌∙◌, subst, ap₂}
+use Rattle.std.proofs.Common.{◌≡◌, ℕ, ◌+◌, ◌-◌, ◌*◌, ◌≤◌, false, ltb, List, length, Ok, sym, ◌∙◌, subst, ap₂}
 use Rattle.std.proofs.lemmas.Bool.{le-ltb}
 use Rattle.plan.specs.Trees.{Tree, tree, planned}
 use Rattle.plan.specs.declared.shape.Shape.{Shape}
 use Rattle.order.specs.Commands.{checked, run, letter_E, letter_G, letter_H, letter_K}
-use Rattle.order.specs.Reading.{reading, operands, shape_in, tree_in, parents_due, ranks_due, ranks_place, go_place, at_go}
+use Rattle.order.specs.Reading.{reading, operands, shape_in, tree_in, parents_due, ranks_due, ranks_place, go_place}
 
 pub reading_ok : (bs : List ℕ) (t : Tree) → ltb 65535 (length bs) ≡ false
     → checked bs 0 letter_H ≡ Ok tt

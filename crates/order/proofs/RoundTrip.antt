@@ -1,5 +1,5 @@
 -- What the writer writes of a lawful plan is read in again as that plan.
-use Rattle.std.proofs.Common.{◌≡◌, ℕ, zero, suc, ◌+◌, ◌-◌, ◌*◌, ◌/◌, ◌%◌, ◌<◌, ◌≤◌, true, List, [], ◌∷◌, ◌++◌, length, get_or, take, Ok, sym, refl, ap, ◌∙◌, subst, append_assoc, zero-add, add-one, arith, length-append}
+use Rattle.std.proofs.Common.{◌≡◌, ℕ, zero, suc, ◌+◌, ◌*◌, ◌/◌, ◌%◌, ◌<◌, ◌≤◌, true, List, [], ◌∷◌, ◌++◌, length, get_or, take, Ok, sym, refl, ap, ◌∙◌, subst, append_assoc, zero-add, add-one, arith, length-append}
 use native.Mathlib.Nat.{div-div-eq-div-mul}
 use Rattle.std.proofs.lemmas.List.{get_or_append_left, get_or-append-add, get_or_at, take_more, take_all}
 use Rattle.std.proofs.lemmas.Bool.{lt-leb, le-ltb, eq-eqb}
@@ -9,10 +9,9 @@ use Rattle.plan.specs.declared.shape.Shape.{Shape}
 use Rattle.plan.proofs.Facts.{Sizes, Thresholds, sizes_of, thresholds_of, parent_below, rank_within}
 use Rattle.order.specs.Bytes.{pair_at}
 use Rattle.order.specs.Commands.{checked, run, size, letter_E, letter_G, letter_H, letter_K}
-use Rattle.order.specs.Reading.{operands, reading, shape_in}
+use Rattle.order.specs.Reading.{operands, shape_in}
 use Rattle.order.specs.Writing.{ReadsBack, command, head_bytes, plan_bytes}
 use Rattle.order.proofs.Overlays.{length_commands}
-use Rattle.order.proofs.Runs.{run_more, operands_more}
 use Rattle.order.proofs.ReadParts.{reading_by}
 
 -- two bytes spell a number below 65,536 again, four bytes one below 2^32

@@ -1,5 +1,5 @@
 -- Numbers as bytes, most significant first.
-use Rattle.std.specs.Prelude.{ℕ, ◌+◌, ◌*◌, ◌/◌, ◌%◌, List, [], ◌∷◌, ◌++◌, length, take, drop, slice_index}
+use Rattle.std.specs.Prelude.{ℕ, ◌+◌, ◌*◌, List, ◌++◌, length, take, drop, slice_index}
 
 -- the number in two bytes from a place on; past the end there are zeros
 abbrev pub pair_at : List ℕ → ℕ → ℕ

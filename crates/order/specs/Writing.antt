@@ -3,7 +3,7 @@ use Rattle.std.specs.Prelude.{◌≡◌, ℕ, ◌+◌, ◌/◌, ◌%◌, ◌≤�
 use Rattle.std.specs.List.{flat_map}
 use Rattle.refusal.specs.declared.Refusal.{Refusal}
 use Rattle.refusal.specs.declared.Refusal.TheVariants.{BufferTooSmall}
-use Rattle.plan.specs.Trees.{Tree, planned}
+use Rattle.plan.specs.Trees.{Tree}
 use Rattle.plan.specs.declared.shape.Shape.{Shape}
 use Rattle.order.specs.Bytes.{overlaid}
 use Rattle.order.specs.Commands.{letter_E, letter_G, letter_H, letter_K}

@@ -1,9 +1,8 @@
 -- The tests of a lawful plan, read as facts about its numbers.
-use Rattle.std.proofs.Common.{◌≡◌, ℕ, ◌+◌, ◌-◌, ◌<◌, ◌≤◌, Bool, true, ◌&&◌, List, length, get_or, arith}
-use Rattle.std.proofs.lemmas.Bool.{and_parts}
+use Rattle.std.proofs.Common.{◌≡◌, ℕ, ◌+◌, ◌<◌, ◌≤◌, Bool, true, ◌&&◌, length, get_or, arith}
 use Rattle.std.proofs.lemmas.Bool.Decides.{nat_tests}
-use Rattle.plan.specs.Shapes.{every, parent_ok, rank_ok, sizes_ok, thresholds_ok, within}
-use Rattle.plan.specs.Trees.{Tree, sizes_right, thresholds_right, parents_right, ranks_right}
+use Rattle.plan.specs.Shapes.{parent_ok, rank_ok, thresholds_ok, within}
+use Rattle.plan.specs.Trees.{Tree, sizes_right, parents_right, ranks_right}
 use Rattle.plan.specs.declared.shape.Shape.{Shape}
 use Rattle.plan.proofs.Every.{every_at}
 

@@ -1,5 +1,5 @@
 -- What a plan means, when one is made or refused, and where everything lives.
-use Rattle.std.specs.Prelude.{ℕ, zero, suc, ◌+◌, ◌-◌, ◌*◌, ◌/◌, Bool, cond, ◌&&◌, List, length, Ok, Err, vec_items, Result, ◌==◌, nat_le, nat_lt, slice_index}
+use Rattle.std.specs.Prelude.{ℕ, zero, suc, ◌+◌, ◌-◌, ◌*◌, ◌/◌, Bool, cond, List, length, Ok, Err, vec_items, Result, ◌==◌, nat_le, nat_lt, slice_index}
 use Rattle.refusal.specs.declared.Refusal.{Refusal}
 use Rattle.refusal.specs.declared.Refusal.TheVariants.{PlanSize, PlanThreshold, PlanParent, PlanRank, UnknownRank}
 use Rattle.plan.specs.Shapes.{within, every, parent, level, sizes_ok, thresholds_ok, parent_ok, rank_ok}

@@ -1,18 +1,17 @@
 -- The program's memory has room for every order: its job is never refused.
-use Rattle.std.proofs.Common.{◌≡◌, ℕ, ◌≤◌, true, leb, List, [], ◌∷◌, length, Ok, Err, Result, sym, refl, ap, ◌∙◌, subst, ap₂, arith}
+use Rattle.std.proofs.Common.{◌≡◌, ℕ, ◌≤◌, List, [], length, Ok, Err, Result, sym, refl, ap, ◌∙◌, subst, ap₂, arith}
 use lib.ListN.{length-replicate}
 use Rattle.std.proofs.lemmas.Bool.{le-leb}
 use Rattle.refusal.specs.declared.Refusal.{Refusal}
 use Rattle.memory.specs.Layout.{byte_words}
-use Rattle.plan.specs.Trees.{Tree, homes}
+use Rattle.plan.specs.Trees.{homes}
 use Rattle.places.specs.Records.{recorded}
 use Rattle.places.specs.declared.answer.Answer.{Answer}
 use Rattle.places.specs.declared.place.Place.TheVariants.{Idle}
 use Rattle.places.specs.declared.record.Record.{Record}
-use Rattle.job.specs.Outcomes.{answers_fit, job_answer}
+use Rattle.job.specs.Outcomes.{job_answer}
 use Rattle.order.proofs.Bounds.{bounds_of}
 use Rattle.order.proofs.Offsets.{short_order}
-use Rattle.order.specs.Lines.{bad_line}
 use Rattle.order.specs.Whole.{Whole, read_whole}
 use Rattle.order.specs.declared.fault.Fault.{Fault}
 use Rattle.transcript.specs.Program.{blank_window, idle_records, lines_from, lines_of}

@@ -1,9 +1,7 @@
 -- The lines of a run: one for each call, and one for the fault that ends the order, if any.
-use Rattle.std.specs.Prelude.{◌≡◌, ℕ, ◌≤◌, true, List, [], ◌∷◌, ◌++◌, is_some, Some, None, Ok, Err, vec_items, Option, Result}
-use Rattle.refusal.specs.Numbers.{number_of}
+use Rattle.std.specs.Prelude.{ℕ, ◌≤◌, List, [], ◌∷◌, ◌++◌, Some, None, Ok, Err, Option, Result}
 use Rattle.refusal.specs.declared.Refusal.{Refusal}
 use Rattle.memory.specs.Layout.{byte_words}
-use Rattle.memory.specs.Words.{Words}
 use Rattle.plan.specs.Trees.{Tree}
 use Rattle.places.specs.declared.answer.Answer.{Answer}
 use Rattle.places.specs.declared.record.Record.{Record}

@@ -1,5 +1,5 @@
 -- A plan that was read and a table of calls: the answers are those of the definition, and the law holds of them.
-use Rattle.std.proofs.Common.{◌≡◌, ℕ, true, List, is_some, Ok, Err, Result, sym, refl, ap, ◌∙◌, subst, ap₂, arith}
+use Rattle.std.proofs.Common.{◌≡◌, ℕ, true, List, is_some, Ok, Result, sym, ap, ◌∙◌, subst, ap₂, arith}
 use Rattle.refusal.specs.declared.Refusal.{Refusal}
 use Rattle.refusal.specs.Numbers.{number_of}
 use Rattle.refusal.specs.declared.Refusal.TheVariants.{OutOfMemory}

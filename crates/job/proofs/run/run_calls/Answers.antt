@@ -1,4 +1,4 @@
-use Rattle.std.proofs.Common.{◌≡◌, ◌<◌, ◌≤◌, ◌++◌, length, take, drop, ap, subst, arith}
+use Rattle.std.proofs.Common.{◌≡◌, ◌≤◌, ◌++◌, length, take, drop, ap, subst, arith}
 use Rattle.plan.specs.Trees.{tree_of}
 use Rattle.law.specs.Calls.{State, answers, state}
 use Rattle.job.proofs.More.{answers_all, answers_more, behind_more, ran_all, ran_more}

@@ -5,7 +5,7 @@ use Rattle.lock.specs.Outcomes.{roomy}
 use Rattle.law.proofs.Beyond.{beyond_kept}
 use Rattle.law.proofs.Job.{every_job}
 use Rattle.law.specs.Beyond.{BeyondKept}
-use Rattle.law.specs.Calls.{State, laid, ran, state}
+use Rattle.law.specs.Calls.{State, ran, state}
 use Rattle.job.proofs.Whole.{job_accepted, job_end, job_laid, job_table}
 use Rattle.job.proofs.run.run_job.Goals as goal
 use Rattle.job.specs.Outcomes.{answers_fit}

@@ -1,4 +1,4 @@
-use Rattle.std.proofs.Common.{◌≡◌, Some, sym, ap, ◌∙◌, rules}
+use Rattle.std.proofs.Common.{◌≡◌, sym, ◌∙◌, rules}
 use Rattle.plan.specs.Trees.{tree_of}
 use Rattle.places.specs.Table.{access_of}
 use Rattle.lock.specs.Steps.{row_words}

@@ -1,5 +1,5 @@
 -- The eight bytes of a word spell it, and what lies before and behind them is as it was.
-use Rattle.std.proofs.Common.{◌≡◌, ℕ, ◌+◌, ◌-◌, ◌*◌, ◌/◌, ◌%◌, ◌^◌, ◌<◌, ◌≤◌, List, [], ◌∷◌, length, get_or, ap, ◌∙◌, arith, rules}
+use Rattle.std.proofs.Common.{◌≡◌, ℕ, ◌+◌, ◌-◌, ◌/◌, ◌%◌, ◌^◌, ◌<◌, ◌≤◌, List, [], ◌∷◌, length, get_or, ap, ◌∙◌, arith, rules}
 use borrow.Rule.Slice.PartMut.{put_mid, take_put, drop_put}
 use Rattle.std.proofs.lemmas.List.{places}
 use Rattle.memory.specs.Layout.{be_word}

@@ -1,6 +1,6 @@
 use Rattle.std.proofs.Common.{◌≡◌, ◌+◌, ◌/◌, ◌%◌, ◌<◌, ◌≤◌, [], ◌∷◌, length, decimal, sym, ap, ◌∙◌, arith}
 use Rattle.order.specs.Bytes.{pasted}
-use Rattle.order.proofs.Decimals.{few_digits, fewer_digits, last_digit, length_last, one_digit, paste_last}
+use Rattle.order.proofs.Decimals.{fewer_digits, length_last, one_digit, paste_last}
 use Rattle.order.proofs.lines.+put_decimal.Goals as goal
 
 pub returns-then-n-lt10 : goal.returns-then-n-lt10

@@ -1,4 +1,4 @@
-use Rattle.std.proofs.Common.{◌≡◌, ℕ, [], ◌∷◌, ◌++◌, length, codes, decimal, ap, ◌∙◌, arith, length-append}
+use Rattle.std.proofs.Common.{◌≡◌, [], ◌∷◌, ◌++◌, length, codes, decimal, ap, ◌∙◌, arith, length-append}
 use Rattle.order.specs.Bytes.{pasted}
 use Rattle.order.specs.Lines.{shown_number}
 use Rattle.order.proofs.Overlays.{three_puts}

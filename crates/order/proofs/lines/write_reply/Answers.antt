@@ -1,7 +1,7 @@
-use Rattle.std.proofs.Common.{◌≡◌, ℕ, ◌≤◌, true, leb, [], ◌∷◌, ◌++◌, length, Ok, decimal, sym, ap, ◌∙◌, ap₂, arith, length-append}
+use Rattle.std.proofs.Common.{◌≡◌, true, leb, [], ◌∷◌, ◌++◌, length, decimal, ap, ◌∙◌, ap₂, arith, length-append}
 use Rattle.std.proofs.lemmas.Bool.{le-leb}
 use Rattle.order.specs.Bytes.{overlaid, pasted}
-use Rattle.order.specs.Lines.{letter, rank, reply_line, reply_words}
+use Rattle.order.specs.Lines.{rank, reply_line, reply_words}
 use Rattle.order.proofs.Overlays.{front_of, pasted_front, three_puts}
 use Rattle.order.proofs.lines.write_reply.Goals as goal
 

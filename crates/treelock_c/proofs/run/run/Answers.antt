@@ -1,4 +1,4 @@
-use Rattle.std.proofs.Common.{◌≡◌, sym, refl, ap, ◌∙◌}
+use Rattle.std.proofs.Common.{refl, ◌∙◌}
 use Rattle.std.proofs.lemmas.Result.{err_from_is_err_and}
 use Rattle.treelock_c.proofs.Outcomes.{law_of, told_all, unnumbered}
 use Rattle.treelock_c.proofs.run.run.Goals as goal
