@@ -3,7 +3,7 @@
 ghost use Rattle.std.specs.Prelude.{◌≡◌, ◌≤◌, ◌++◌, length, drop, OnOk};
 ghost use Rattle.plan.specs.Trees.{tree_of};
 ghost use Rattle.law.specs.Beyond.{BeyondKept};
-ghost use Rattle.law.specs.Calls.{answers as answers-to, called, laid, ran, state};
+ghost use Rattle.law.specs.Calls.{answers as answers_to, called, laid, ran, state};
 ghost use Rattle.law.specs.Law.{Law};
 ghost use Rattle.job.specs.Outcomes.{job_answer, job_answers, job_state};
 
@@ -59,7 +59,7 @@ fn run_calls<M: Memory>(
         ≡ (ran (tree_of plan.now)
         (state (M.ReadMemory.words memory.old) records.old) calls.now).records }
     ensures table { answers.new
-        ≡ answers-to (tree_of plan.now)
+        ≡ answers_to (tree_of plan.now)
         (state (M.ReadMemory.words memory.old) records.old) calls.now
         ++ drop (length calls.now) answers.old }
 {
