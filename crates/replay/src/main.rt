@@ -1,4 +1,4 @@
-//! Runs many orders, one after another, for the comparison with the model: each is four bytes of length, the most
+//! Runs many orders, one after another, for a comparison with a model: each is four bytes of length, the most
 //! significant first, and then the order. Prints the lines of each run, and behind them a line `end`.
 #![tactic(auto)]
 
