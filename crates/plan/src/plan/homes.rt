@@ -183,8 +183,7 @@ impl Plan {
     pub fn counters(&self) -> u16
         ensures { result ≡ counters (tree_of self.now) }
     {
-        let spacing = self.shape.spacing as u32;
-        ((self.shape.ranks as u32 + spacing - 1) / spacing) as u16
+        self.shape.ranks.div_ceil(self.shape.spacing)
     }
 
     /// The home of a counter; counters are numbered from 0.
