@@ -19,7 +19,8 @@ known_to_each false e x y h = cc
 
 pub returns : goal.returns
 returns c =
-    let v = rw (c.new.ensures.start, c.new.ensures.end, c.new.ensures.exhausted) at c.contains.ensures.value in
-    let w : c.contains.result ≡ within 1 (own_level (tree_of c.args.plan.now) c.args.rank) c.args.level =
-    v ∙ between 1 c.own_level.result c.args.level ∙ ap (λ (h : ℕ). within 1 h c.args.level) c.own_level.ensures.value in
+    let tested = rw (c.new.ensures.start, c.new.ensures.end, c.new.ensures.exhausted) at c.contains.ensures.value in
+    let same = between 1 c.own_level.result c.args.level in
+    let own = ap (λ (h : ℕ). within 1 h c.args.level) c.own_level.ensures.value in
+    let w : c.contains.result ≡ within 1 (own_level (tree_of c.args.plan.now) c.args.rank) c.args.level = cc in
     ap Ok w ∙ known_to_each _ _ tt _ c.in_ok-known.ensures

@@ -1,4 +1,4 @@
-use Rattle.std.proofs.Common.{◌≡◌, ℕ, ◌+◌, ◌-◌, ◌*◌, ◌/◌, ◌%◌, ◌<◌, ◌≤◌, min, sym, ◌∙◌, arith}
+use Rattle.std.proofs.Common.{◌≡◌, ℕ, ◌+◌, ◌-◌, ◌*◌, ◌/◌, ◌%◌, ◌<◌, ◌≤◌, min, sym, arith}
 use Rattle.std.proofs.Math.Nat.{div-eq_of_lt-le}
 use Rattle.std.proofs.lemmas.Bool.Decides.{nat_tests}
 use Rattle.std.proofs.lemmas.Grind.{div_ceil_times}
@@ -12,4 +12,6 @@ ceil_is a b h =
     sym (div-eq_of_lt-le b (omega (arith, e.1)) (grind (arith, e.0)))
 
 pub returns : goal.returns
-returns c = c.div_ceil.ensures ∙ ceil_is c.args.self.now.shape.ranks c.args.self.now.shape.spacing (grind (arith, nat_tests))
+returns c =
+    let up = ceil_is c.args.self.now.shape.ranks c.args.self.now.shape.spacing (grind (arith, nat_tests)) in
+    cc
