@@ -47,6 +47,10 @@ thresholds_ok s =
 abbrev pub parent_ok : Shape → List ℕ → ℕ → Bool
 parent_ok s ps j = within 1 (j + 1) (slice_index ps j) && nat_le (level ps (j + 2)) s.levels
 
--- rank j + 1 hangs on an element of the lowest level
+-- a rank may hang on element k, one of the lowest level
+abbrev pub seat_ok : Shape → List ℕ → ℕ → Bool
+seat_ok s ps k = within 1 s.elements k && level ps k == s.levels
+
+-- rank j + 1 hangs on such an element
 abbrev pub rank_ok : Shape → List ℕ → List ℕ → ℕ → Bool
-rank_ok s ps es j = within 1 s.elements (slice_index es j) && level ps (slice_index es j) == s.levels
+rank_ok s ps es j = seat_ok s ps (slice_index es j)

@@ -10,6 +10,7 @@ pub mod make;
 pub mod tree;
 
 /// The numbers, the parent of each element above 1, and the element of each rank.
+// The tree stays the list of parents that callers and orders give: it is only climbed.
 #[derive(Drop)]
 pub struct Plan {
     shape: Shape,

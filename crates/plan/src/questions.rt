@@ -1,5 +1,6 @@
 //! Questions about a rank of any number: an unknown rank is refused by 6.
-//! A level that is not on the rank's way from its own up to 1 has no element and no home: 0.
+//! A level that is not on the rank's way from its own up to 1 has no element and no home: the answer is 0 then, as in the
+//! lock's words and in the listing, where elements and homes are numbered from 1.
 
 ghost use Rattle.std.specs.Prelude.{◌≡◌};
 ghost use Rattle.plan.specs.Trees.{
@@ -17,14 +18,26 @@ ghost use Rattle.plan.specs.Trees.{
 ghost use Rattle.plan.specs.Shapes.{within};
 
 use crate::plan::Plan;
-use crate::plan::tree::is_within;
 use refusal::Refusal;
 
-// Whether a level lies on a rank's way up.
-fn is_on_way(plan: &Plan, rank: u16, level: u8) -> bool
-    ensures { result ≡ within 1 (own_level (tree_of plan.now) rank) level }
+// Refuses a rank that the plan does not have.
+fn known(plan: &Plan, rank: u16) -> Result<(), Refusal>
+    ensures { result ≡ asked (tree_of plan.now) rank tt }
 {
-    is_within(1, plan.own_level(rank) as u64, level as u64)
+    if plan.has_rank(rank) {
+        Ok(())
+    } else {
+        Err(Refusal::UnknownRank)
+    }
+}
+
+// Whether a level lies on a rank's way up.
+fn is_on_way(plan: &Plan, rank: u16, level: u8) -> Result<bool, Refusal>
+    ensures { result ≡ asked (tree_of plan.now) rank
+        (within 1 (own_level (tree_of plan.now) rank) level) }
+{
+    known(plan, rank)?;
+    Ok((1..=plan.own_level(rank)).contains(&level))
 }
 
 /// The element on which a rank hangs.
@@ -32,9 +45,7 @@ pub fn element_of_rank(plan: &Plan, rank: u16) -> Result<u16, Refusal>
     ensures { result ≡
         asked (tree_of plan.now) rank (own_element (tree_of plan.now) rank) }
 {
-    if !plan.has_rank(rank) {
-        return Err(Refusal::UnknownRank);
-    }
+    known(plan, rank)?;
     Ok(plan.own_element(rank))
 }
 
@@ -43,9 +54,7 @@ pub fn level_of_rank(plan: &Plan, rank: u16) -> Result<u8, Refusal>
     ensures { result ≡
         asked (tree_of plan.now) rank (own_level (tree_of plan.now) rank) }
 {
-    if !plan.has_rank(rank) {
-        return Err(Refusal::UnknownRank);
-    }
+    known(plan, rank)?;
     Ok(plan.own_level(rank))
 }
 
@@ -54,10 +63,7 @@ pub fn element_above(plan: &Plan, rank: u16, level: u8) -> Result<u16, Refusal>
     ensures { result ≡ asked (tree_of plan.now) rank
         (on_way (tree_of plan.now) rank level (element_at (tree_of plan.now) rank level)) }
 {
-    if !plan.has_rank(rank) {
-        return Err(Refusal::UnknownRank);
-    }
-    if !is_on_way(plan, rank, level) {
+    if !is_on_way(plan, rank, level)? {
         return Ok(0);
     }
     Ok(plan.element_at(rank, level))
@@ -68,10 +74,7 @@ pub fn node_of_rank(plan: &Plan, rank: u16, level: u8) -> Result<u64, Refusal>
     ensures { result ≡ asked (tree_of plan.now) rank
         (on_way (tree_of plan.now) rank level (node_home (tree_of plan.now) rank level)) }
 {
-    if !plan.has_rank(rank) {
-        return Err(Refusal::UnknownRank);
-    }
-    if !is_on_way(plan, rank, level) {
+    if !is_on_way(plan, rank, level)? {
         return Ok(0);
     }
     Ok(plan.node_home(rank, level))
@@ -82,10 +85,7 @@ pub fn queue_of_rank(plan: &Plan, rank: u16, level: u8) -> Result<u64, Refusal>
     ensures { result ≡ asked (tree_of plan.now) rank
         (on_way (tree_of plan.now) rank level (queue_home (tree_of plan.now) rank level)) }
 {
-    if !plan.has_rank(rank) {
-        return Err(Refusal::UnknownRank);
-    }
-    if !is_on_way(plan, rank, level) {
+    if !is_on_way(plan, rank, level)? {
         return Ok(0);
     }
     Ok(plan.queue_home(rank, level))
@@ -96,9 +96,7 @@ pub fn counter_of_rank(plan: &Plan, rank: u16) -> Result<u16, Refusal>
     ensures { result ≡
         asked (tree_of plan.now) rank (own_counter (tree_of plan.now) rank) }
 {
-    if !plan.has_rank(rank) {
-        return Err(Refusal::UnknownRank);
-    }
+    known(plan, rank)?;
     Ok(plan.own_counter(rank))
 }
 
@@ -107,8 +105,6 @@ pub fn counter_home_of_rank(plan: &Plan, rank: u16) -> Result<u64, Refusal>
     ensures { result ≡
         asked (tree_of plan.now) rank (own_counter_home (tree_of plan.now) rank) }
 {
-    if !plan.has_rank(rank) {
-        return Err(Refusal::UnknownRank);
-    }
+    known(plan, rank)?;
     Ok(plan.own_counter_home(rank))
 }

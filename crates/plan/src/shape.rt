@@ -1,5 +1,11 @@
 //! The numbers of a plan, as an order can carry them; lawful or not.
 
+/// A plan has at most this many ranks.
+pub const MOST_RANKS: usize = 1024;
+
+/// A plan has at most this many elements.
+pub const MOST_ELEMENTS: usize = 256;
+
 /// How many there are of each thing, and the thresholds.
 #[derive(Clone, Copy, PartialEq, Eq, Debug)]
 pub struct Shape {
@@ -16,6 +22,7 @@ pub struct Shape {
     /// Writers in a row before readers get a chance.
     pub writer_threshold: u16,
     /// How often an element of level 2 hands on before it lets its parent go; then of levels 3 and 4.
+    // Three fields, since an order holds exactly these three.
     pub level2_threshold: u16,
     pub level3_threshold: u16,
     pub level4_threshold: u16,

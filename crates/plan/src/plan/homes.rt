@@ -1,7 +1,8 @@
 //! Where everything lives. These methods are total: the lock asks them of ranks that it has checked.
-//! For a number that names nothing they answer what the definition says; `questions` refuses it.
+//! For a number that names nothing they answer what the definition says; `questions` refuses it. Elements and levels are
+//! numbered from 1, so 0 stands where there is none.
 
-ghost use Rattle.std.specs.Prelude.{◌≡◌, ◌<◌, ◌≤◌, length, nat_lt};
+ghost use Rattle.std.specs.Prelude.{◌≡◌, ◌<◌, ◌≤◌, T, length, nat_lt};
 ghost use Rattle.plan.specs.Trees.{
   counter_home,
   counters,
@@ -24,10 +25,10 @@ ghost use Rattle.plan.specs.Trees.{
 };
 
 use crate::plan::Plan;
-use crate::plan::tree::{at_or_zero, climb, is_within, level_in_tree, parent_in_tree};
+use crate::plan::tree::{at_or_zero, climb, level_in_tree};
 use crate::shape::Shape;
 
-// The threshold of a level, 2 to 4, and 0 at any other.
+// The threshold of a level, 2 to 4, and 0 at any other. A `match`, since the thresholds are fields.
 fn threshold_of_level(shape: &Shape, level: u8) -> u16
     ensures { result ≡ level_threshold shape.now level }
 {
@@ -68,14 +69,14 @@ impl Plan {
     pub fn has_rank(&self, rank: u16) -> bool
         ensures { result ≡ has_rank (tree_of self.now) rank }
     {
-        is_within(1, self.shape.ranks as u64, rank as u64)
+        (1..=self.shape.ranks).contains(&rank)
     }
 
     /// Whether the plan has an element of this number.
     pub fn has_element(&self, element: u16) -> bool
         ensures { result ≡ has_element (tree_of self.now) element }
     {
-        is_within(1, self.shape.elements as u64, element as u64)
+        (1..=self.shape.elements).contains(&element)
     }
 
     /// The parent of an element; 0 for element 1, and for a number that is no element.
@@ -148,8 +149,8 @@ impl Plan {
         climb(
             self.parents(),
             self.own_level(rank).saturating_sub(level),
-            self.own_element(rank) as usize,
-        ) as u16
+            self.own_element(rank),
+        )
     }
 
     /// The home whose queue a rank joins at a level.
@@ -159,9 +160,10 @@ impl Plan {
         self.element_home(self.element_at(rank, level))
     }
 
-    // Whether a level lies above a rank's own.
-    fn is_inner(&self, rank: u16, level: u8) -> bool
-        ensures { result ≡ nat_lt level (own_level (tree_of self.now) rank) }
+    /// Whether a level lies above a rank's own.
+    pub fn is_inner(&self, rank: u16, level: u8) -> bool
+        ensures value { result ≡ nat_lt level (own_level (tree_of self.now) rank) }
+        ensures bound { T result → level < 255 }
     {
         level < self.own_level(rank)
     }
@@ -181,8 +183,7 @@ impl Plan {
     pub fn counters(&self) -> u16
         ensures { result ≡ counters (tree_of self.now) }
     {
-        let spacing = self.shape.spacing as u32;
-        ((self.shape.ranks as u32 + spacing - 1) / spacing) as u16
+        self.shape.ranks.div_ceil(self.shape.spacing)
     }
 
     /// The home of a counter; counters are numbered from 0.

@@ -1,33 +1,28 @@
 //! Plans are made here and nowhere else, from parts that are tested in the order of the refusals.
 
-ghost use Rattle.std.specs.Prelude.{◌≡◌, ◌<◌, true, length};
-ghost use Rattle.plan.specs.Shapes.{every, level_threshold_ok, parent_ok, rank_ok, sizes_ok, thresholds_ok};
+ghost use Rattle.std.specs.Prelude.{◌≡◌, ◌<◌, length};
+ghost use Rattle.plan.specs.Shapes.{
+  every,
+  level_threshold_ok,
+  parent_ok,
+  rank_ok,
+  seat_ok,
+  sizes_ok,
+  thresholds_ok,
+};
 ghost use Rattle.plan.specs.Trees.{planned, tree, tree_result};
 
 use crate::plan::Plan;
-use crate::plan::tree::{is_within, level_in_tree};
-use crate::shape::Shape;
+use crate::plan::tree::level_in_tree;
+use crate::shape::{MOST_ELEMENTS, MOST_RANKS, Shape};
 use refusal::Refusal;
-
-// How many there are of each thing, and the lengths of the lists.
-fn sizes_fit(shape: &Shape, parents: &[u16], elements: &[u16]) -> bool
-    ensures value { result ≡ sizes_ok shape.now parents.now elements.now }
-    ensures few { result ≡ true → length parents.now < 256 }
-{
-    is_within(1, 1024, shape.ranks as u64)
-        && is_within(1, 256, shape.elements as u64)
-        && is_within(1, 4, shape.levels as u64)
-        && is_within(1, shape.ranks as u64, shape.spacing as u64)
-        && parents.len() == shape.elements as usize - 1
-        && elements.len() == shape.ranks as usize
-}
 
 // The threshold of one level, 2 to 4.
 fn level_threshold_fits(shape: &Shape, level: u8, threshold: u16) -> bool
     ensures { result ≡ level_threshold_ok shape.now level threshold }
 {
     if level <= shape.levels {
-        is_within(1, 1000, threshold as u64)
+        (1..=1000).contains(&threshold)
     } else {
         threshold == 0
     }
@@ -36,55 +31,68 @@ fn level_threshold_fits(shape: &Shape, level: u8, threshold: u16) -> bool
 fn thresholds_fit(shape: &Shape) -> bool
     ensures { result ≡ thresholds_ok shape.now }
 {
-    is_within(1, 1000000, shape.reader_threshold as u64)
-        && is_within(1, 1000, shape.writer_threshold as u64)
+    (1..=1000000).contains(&shape.reader_threshold)
+        && (1..=1000).contains(&shape.writer_threshold)
         && level_threshold_fits(shape, 2, shape.level2_threshold)
         && level_threshold_fits(shape, 3, shape.level3_threshold)
         && level_threshold_fits(shape, 4, shape.level4_threshold)
 }
 
-// The parent of element j + 2.
-fn parent_fits(shape: &Shape, parents: &[u16], j: usize) -> bool
-    requires { (j < length parents.now) × (length parents.now < 256) }
-    ensures { result ≡ parent_ok shape.now parents.now j }
-{
-    is_within(1, j as u64 + 1, parents[j] as u64) && level_in_tree(parents, j + 2) <= shape.levels
+// The parts of a plan that is to be made, lent for the tests.
+#[derive(Clone, Copy)]
+struct Parts<'a> {
+    shape: &'a Shape,
+    parents: &'a [u16],
+    rank_elements: &'a [u16],
 }
 
-// The element of rank j + 1.
-fn rank_fits(shape: &Shape, parents: &[u16], elements: &[u16], j: usize) -> bool
-    requires { j < length elements.now }
-    ensures { result ≡ rank_ok shape.now parents.now elements.now j }
-{
-    let k = elements[j];
-    is_within(1, shape.elements as u64, k as u64)
-        && level_in_tree(parents, k as usize) == shape.levels
-}
-
-fn parents_fit(shape: &Shape, parents: &[u16]) -> bool
-    requires { length parents.now < 256 }
-    ensures { result ≡
-        every (parent_ok shape.now parents.now) (length parents.now) }
-{
-    for j in 0..parents.len() {
-        if !parent_fits(shape, parents, j) {
-            return false;
-        }
+impl<'a> Parts<'a> {
+    // How many there are of each thing, and the lengths of the lists.
+    fn sizes_fit(&self) -> bool
+        ensures { result ≡
+            sizes_ok self.now.shape.now self.now.parents.now self.now.rank_elements.now }
+    {
+        (1..=MOST_RANKS).contains(&(self.shape.ranks as usize))
+            && (1..=MOST_ELEMENTS).contains(&(self.shape.elements as usize))
+            && (1..=4).contains(&self.shape.levels)
+            && (1..=self.shape.ranks).contains(&self.shape.spacing)
+            && self.parents.len() == self.shape.elements as usize - 1
+            && self.rank_elements.len() == self.shape.ranks as usize
     }
-    true
-}
 
-fn ranks_fit(shape: &Shape, parents: &[u16], elements: &[u16]) -> bool
-    ensures { result ≡
-        every (rank_ok shape.now parents.now elements.now)
-        (length elements.now) }
-{
-    for j in 0..elements.len() {
-        if !rank_fits(shape, parents, elements, j) {
-            return false;
-        }
+    // The parent of element j + 2.
+    fn parent_fits(&self, j: usize) -> bool
+        requires { j < length self.now.parents.now }
+        ensures { result ≡ parent_ok self.now.shape.now self.now.parents.now j }
+    {
+        (1..=j + 1).contains(&(self.parents[j] as usize))
+            && level_in_tree(self.parents, j + 2) <= self.shape.levels
     }
-    true
+
+    fn parents_fit(&self) -> bool
+        ensures { result ≡
+            every (parent_ok self.now.shape.now self.now.parents.now) (length self.now.parents.now) }
+    {
+        (0..self.parents.len()).all(|j| self.parent_fits(j))
+    }
+
+    // The element of a rank.
+    fn rank_fits(&self, element: u16) -> bool
+        ensures { result ≡ seat_ok self.now.shape.now self.now.parents.now element }
+    {
+        (1..=self.shape.elements).contains(&element)
+            && level_in_tree(self.parents, element as usize) == self.shape.levels
+    }
+
+    fn ranks_fit(&self) -> bool
+        ensures { result ≡
+            every (rank_ok self.now.shape.now self.now.parents.now self.now.rank_elements.now)
+            (length self.now.rank_elements.now) }
+    {
+        self.rank_elements
+            .iter()
+            .all(|element| self.rank_fits(*element))
+    }
 }
 
 impl Plan {
@@ -92,16 +100,21 @@ impl Plan {
     pub fn new(shape: Shape, parents: Vec<u16>, rank_elements: Vec<u16>) -> Result<Plan, Refusal>
         ensures { tree_result result ≡ planned (tree shape parents.items rank_elements.items) }
     {
-        if !sizes_fit(&shape, parents.as_slice(), rank_elements.as_slice()) {
+        let parts = Parts {
+            shape: &shape,
+            parents: &parents,
+            rank_elements: &rank_elements,
+        };
+        if !parts.sizes_fit() {
             return Err(Refusal::PlanSize);
         }
         if !thresholds_fit(&shape) {
             return Err(Refusal::PlanThreshold);
         }
-        if !parents_fit(&shape, parents.as_slice()) {
+        if !parts.parents_fit() {
             return Err(Refusal::PlanParent);
         }
-        if !ranks_fit(&shape, parents.as_slice(), rank_elements.as_slice()) {
+        if !parts.ranks_fit() {
             return Err(Refusal::PlanRank);
         }
         Ok(Plan {
