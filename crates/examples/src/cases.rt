@@ -5,6 +5,7 @@ ghost use Rattle.std.specs.Prelude.{◌≡◌, true};
 ghost use Rattle.examples.specs.Cases.{all_hold, cases};
 
 /// One case: a question about plan A, or a change of it, and the answer.
+// Each answer is a number, as in the table's definition: 0 where nothing is refused, 1 for a hand-over.
 #[derive(Clone, Copy)]
 pub enum Case {
     /// A rank, and the home of its counter.

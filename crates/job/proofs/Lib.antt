@@ -1,2 +1,0 @@
-pub mod More
-pub mod Whole

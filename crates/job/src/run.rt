@@ -43,7 +43,8 @@ pub fn run_call<M: Memory>(
     }
 }
 
-// The calls one after another, each answer into its place.
+// The calls one after another, each answer into its place. Calls and answers are two tables, since both are the
+// caller's and a job allocates nothing.
 fn run_calls<M: Memory>(
     plan: &Plan,
     memory: &mut M,
@@ -63,8 +64,9 @@ fn run_calls<M: Memory>(
         (state (M.ReadMemory.words memory.old) records.old) calls.now
         ++ drop (length calls.now) answers.old }
 {
-    for i in 0..calls.len() {
-        answers[i] = run_call(plan, memory, records, calls[i]);
+    for (i, call) in calls.iter().enumerate() {
+        // by index: what `answers.iter_mut().zip(calls)` leaves in the table is not known to a proof
+        answers[i] = run_call(plan, memory, records, *call);
     }
 }
 

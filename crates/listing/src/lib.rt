@@ -2,7 +2,5 @@
 #![tactic(auto)]
 
 pub mod lines;
-pub mod numbered;
+mod numbered;
 pub mod report;
-mod rows;
-mod way_up;

@@ -1,11 +1,10 @@
 //! One line of a listing at a time, each ended by a line feed.
 
-ghost use Rattle.std.specs.Prelude.{◌≡◌, IfOk, string_bytes};
+ghost use Rattle.std.specs.Prelude.{◌≡◌, ◌-◌, IfOk, string_bytes};
 ghost use Rattle.plan.specs.Trees.{tree_of};
-ghost use Rattle.listing.specs.Lines.{bad_line, counter_line, element_line, plan_line, rank_line};
+ghost use Rattle.listing.specs.Lines.{bad_line, counter_line, element_line, plan_line, rank_line, word};
 
 use crate::numbered::all_texts;
-use crate::way_up::{Nodes, Queues};
 use plan::plan::Plan;
 use std::alloc::{AllocError, Global};
 
@@ -42,15 +41,33 @@ pub fn counter_line(heap: Global, plan: &Plan, counter: u16) -> Result<String, A
     format!(in heap; "counter {counter} home {home}\n")
 }
 
+// A number behind a space.
+fn word(heap: Global, number: u64) -> Result<String, AllocError>
+    ensures { IfOk result (λ s. string_bytes s ≡ word number) }
+{
+    format!(in heap; " {number}")
+}
+
+// The level so many above another, or 0 where there is none.
+fn level_above(level: u8, distance: u16) -> u8
+    ensures { result ≡ level - distance }
+{
+    (level as u16).saturating_sub(distance) as u8
+}
+
 /// The line of a rank.
 pub fn rank_line(heap: Global, plan: &Plan, rank: u16) -> Result<String, AllocError>
     ensures { IfOk result (λ s. string_bytes s ≡ rank_line (tree_of plan.now) rank) }
 {
     let element = plan.own_element(rank);
     let counter = plan.own_counter_home(rank);
-    let own = plan.own_level(rank) as u16;
-    let nodes = all_texts(heap, &Nodes { plan, rank }, 0, own)?;
-    let queues = all_texts(heap, &Queues { plan, rank }, 0, own)?;
+    let own = plan.own_level(rank);
+    let nodes = all_texts(heap, 0, own as u16, |above| {
+        word(heap, plan.node_home(rank, level_above(own, above)))
+    })?;
+    let queues = all_texts(heap, 0, own as u16, |above| {
+        word(heap, plan.queue_home(rank, level_above(own, above)))
+    })?;
     format!(in heap;
         "rank {rank} element {element} counter {counter} nodes{nodes} queues{queues}\n"
     )

@@ -4,9 +4,8 @@ ghost use Rattle.std.specs.Prelude.{◌≡◌, IfOk, string_bytes};
 ghost use Rattle.plan.specs.Trees.{tree_of};
 ghost use Rattle.listing.specs.Reports.{listing, report_of};
 
-use crate::lines::{bad_line, plan_line};
+use crate::lines::{bad_line, counter_line, element_line, plan_line, rank_line};
 use crate::numbered::all_texts;
-use crate::rows::{Counters, Elements, Ranks};
 use order::read::read_plan;
 use plan::plan::Plan;
 use std::alloc::{AllocError, Global};
@@ -16,9 +15,9 @@ pub fn list_plan(heap: Global, plan: &Plan) -> Result<String, AllocError>
     ensures { IfOk result (λ s. string_bytes s ≡ listing (tree_of plan.now)) }
 {
     let shape = plan.shape();
-    let elements = all_texts(heap, &Elements { plan }, 1, shape.elements)?;
-    let counters = all_texts(heap, &Counters { plan }, 0, plan.counters())?;
-    let ranks = all_texts(heap, &Ranks { plan }, 1, shape.ranks)?;
+    let elements = all_texts(heap, 1, shape.elements, |n| element_line(heap, plan, n))?;
+    let counters = all_texts(heap, 0, plan.counters(), |n| counter_line(heap, plan, n))?;
+    let ranks = all_texts(heap, 1, shape.ranks, |n| rank_line(heap, plan, n))?;
     let mut text = plan_line(heap, plan)?;
     text.push_str(elements.as_str())?;
     text.push_str(counters.as_str())?;
@@ -32,9 +31,10 @@ pub fn report(heap: Global, order: &[u8]) -> Result<String, AllocError>
 {
     match read_plan(heap, order) {
         Ok(read) => list_plan(heap, &read.plan),
-        Err(fault) => match fault.refusal.number() {
-            Some(number) => bad_line(heap, number, fault.offset),
-            None => Err(AllocError),
-        },
+        Err(fault) => {
+            // only want of memory has no number
+            let number = fault.refusal.number().ok_or(AllocError)?;
+            bad_line(heap, number, fault.offset)
+        }
     }
 }

@@ -13,14 +13,13 @@ fn main(rt: HostRuntime) -> anyhow::Result<()> {
     let mut orders = Vec::new(heap);
     rt.stdin().take(MOST_BYTES).read_to_end(&mut orders)?;
     let mut rest = orders.as_slice();
-    while let [a, b, c, d, ..] = rest {
-        let length = u32::from_be_bytes([*a, *b, *c, *d]) as usize;
-        let behind = &rest[4..];
-        let end = length.min(behind.len());
-        let text = transcribe(heap, &behind[0..end])?;
+    while let Some((length, behind)) = rest.split_first_chunk::<4>() {
+        let length = u32::from_be_bytes(*length) as usize;
+        let (order, next) = behind.split_at(length.min(behind.len()));
+        let text = transcribe(heap, order)?;
         rt.stdout().write_all(text.as_slice())?;
         rt.stdout().write_all(b"end\n")?;
-        rest = &behind[end..];
+        rest = next;
     }
     Ok(())
 }

@@ -1,8 +1,7 @@
 -- A plan that was read and a table of calls: the answers are those of the definition, and the law holds of them.
-use Rattle.std.proofs.Common.{◌≡◌, ℕ, true, List, is_some, Ok, Result, sym, ap, ◌∙◌, subst, ap₂, arith}
+use Rattle.std.proofs.Common.{◌≡◌, ℕ, List, Err, Ok, MatchResult, Result, sym, ap, ◌∙◌, subst, ap₂}
+use Rattle.std.specs.Result.{IsErrAnd}
 use Rattle.refusal.specs.declared.Refusal.{Refusal}
-use Rattle.refusal.specs.Numbers.{number_of}
-use Rattle.refusal.specs.declared.Refusal.TheVariants.{OutOfMemory}
 use Rattle.memory.specs.Layout.{table_words}
 use Rattle.memory.specs.Words.{Words}
 use Rattle.plan.specs.Trees.{tree_of}
@@ -10,7 +9,7 @@ use Rattle.places.specs.declared.record.Record.{Record}
 use Rattle.lock.specs.Layouts.{laid_records, laid_words}
 use Rattle.law.proofs.Job.{every_job}
 use Rattle.law.specs.Calls.{State, laid, state}
-use Rattle.order.specs.Reading.{Reading, reading, reading_of}
+use Rattle.order.specs.Reading.{Answers, Reading, reading, reading_of}
 use Rattle.order.specs.declared.fault.Fault.{Fault}
 use Rattle.order.specs.declared.read.PlanRead.{PlanRead}
 use Rattle.treelock_c.proofs.Room.{room_for}
@@ -18,10 +17,12 @@ use Rattle.treelock_c.specs.Exchanges.{calls_in, replies}
 use Rattle.treelock_c.specs.Runs.{Lawful, blank_table, idle_records, outcome, outcome_of, start}
 use Rattle.treelock_c.specs.declared.exchange.Exchange.{Exchange}
 
--- want of memory has no number
-pub unnumbered : {A : Type 0} (e : Refusal) → e ≡ OutOfMemory → is_some (number_of e) ≡ true → A
-unnumbered e is h =
-    absurd (let z : is_some (number_of OutOfMemory) ≡ true = subst (λ (x : Refusal). is_some (number_of x) ≡ true) is h in grind arith)
+-- a plan comes through where only a fault is turned into its refusal
+pub read_through : (P : Fault → Refusal → Type 0) (r : Result PlanRead Fault) (m : Result PlanRead Refusal)
+    (x : PlanRead) (d : Result Reading Fault)
+    → MatchResult r (λ y. m ≡ Ok y) (λ f. IsErrAnd m (P f)) → m ≡ Ok x → Answers r d → d ≡ Ok (reading_of x)
+read_through P (Ok y) m x d same is answer = let e : y ≡ x = cc in answer ∙ ap (λ (z : PlanRead). Ok (reading_of z)) e
+read_through P (Err f) m x d fails is answer = absurd (let no = rw is at fails in no)
 
 module _ (bs : List ℕ) (es : List Exchange) (x : PlanRead) where
   pub law_of : reading bs ≡ Ok (reading_of x) → Lawful (reading bs) es

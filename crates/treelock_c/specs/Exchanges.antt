@@ -1,5 +1,6 @@
 -- Calls and answers as bytes and numbers: what an exchange asks, and how its answer is told.
 use Rattle.std.specs.Prelude.{ℕ, cond, List, [], ◌∷◌, Some, None, Ok, Err, Option, Result, ◌==◌}
+use Rattle.std.specs.Option.{unwrap_or}
 use Rattle.refusal.specs.Numbers.{number_of}
 use Rattle.refusal.specs.declared.Refusal.{Refusal}
 use Rattle.refusal.specs.declared.Refusal.TheVariants.{Misplaced}
@@ -41,12 +42,8 @@ abbrev pub state_in : Outcome → State
 state_in o = state o.words o.records
 
 -- a refusal by its number; want of memory, which has none, by 255
-abbrev pub code_or : Option ℕ → ℕ
-code_or (Some n) = n
-code_or None = 255
-
 abbrev pub number_code : Refusal → ℕ
-number_code e = code_or (number_of e)
+number_code e = unwrap_or (number_of e) 255
 
 -- an answer by the first letter of its word, all of them different and above every number
 abbrev pub answer_code : Result Answer Refusal → ℕ

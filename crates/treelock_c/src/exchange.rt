@@ -1,13 +1,14 @@
 //! A call and what it answered, in the form in which they cross to C.
 
 ghost use Rattle.std.specs.Prelude.{◌≡◌};
-ghost use Rattle.treelock_c.specs.Exchanges.{answer_code, call_in, number_code, replied};
+ghost use Rattle.treelock_c.specs.Exchanges.{answer_code, call_in, number_code};
 
 use law::call::Call;
 use places::answer::Answer;
 use refusal::Refusal;
 
 /// One call of a job and the place for its answer.
+// Letters and numbers in place of enums, for C.
 #[repr(C)]
 #[derive(Clone, Copy)]
 pub struct Exchange {
@@ -37,14 +38,11 @@ pub(crate) fn call_of(e: Exchange) -> Option<Call>
 pub(crate) fn code_of_refusal(refusal: Refusal) -> u8
     ensures { result ≡ number_code refusal }
 {
-    match refusal.number() {
-        Some(number) => number,
-        None => 255,
-    }
+    refusal.number().unwrap_or(255)
 }
 
 // The first letter of an answer, or the number of a refusal.
-fn code_of_answer(answer: Result<Answer, Refusal>) -> u8
+pub(crate) fn code_of_answer(answer: Result<Answer, Refusal>) -> u8
     ensures { result ≡ answer_code answer }
 {
     match answer {
@@ -55,16 +53,5 @@ fn code_of_answer(answer: Result<Answer, Refusal>) -> u8
         Ok(Answer::Waiting) => b'w',
         Ok(Answer::Moved) => b'm',
         Err(refusal) => code_of_refusal(refusal),
-    }
-}
-
-// The exchange with what its call answered.
-pub(crate) fn with_answer(e: Exchange, answer: Result<Answer, Refusal>) -> Exchange
-    ensures { result ≡ replied e answer }
-{
-    Exchange {
-        letter: e.letter,
-        answer: code_of_answer(answer),
-        rank: e.rank,
     }
 }

@@ -8,7 +8,7 @@ ghost use Rattle.order.specs.Reading.{reading};
 ghost use Rattle.treelock_c.specs.Exchanges.{call_in, calls_in, made_call, replies};
 ghost use Rattle.treelock_c.specs.Runs.{Lawful, Told, outcome};
 
-use crate::exchange::{Exchange, call_of, code_of_refusal, with_answer};
+use crate::exchange::{Exchange, call_of, code_of_answer, code_of_refusal};
 use job::run::run_call;
 use lock::layout::layout;
 use memory::{Memory, WordMemory};
@@ -40,13 +40,12 @@ fn answer_one<M: Memory>(
         ≡ (made_call (tree_of plan.now) (M.ReadMemory.words memory.old)
         records.old (call_in e)).records }
 {
-    match call_of(e) {
-        Some(call) => run_call(plan, memory, records, call),
-        None => Err(Refusal::Misplaced),
-    }
+    let call = call_of(e).ok_or(Refusal::Misplaced)?;
+    run_call(plan, memory, records, call)
 }
 
-// The calls of the table one after another, each answer into its place.
+// The calls of the table one after another, each answer into its place. Not one function with the `run_calls` of `job`:
+// a generic walk would go over places by an iterator, and no contract could say what it leaves in them.
 fn answer_all<M: Memory>(
     plan: &Plan,
     memory: &mut M,
@@ -66,9 +65,9 @@ fn answer_all<M: Memory>(
         (state (M.ReadMemory.words memory.old) records.old)
         table.old }
 {
-    for i in 0..table.len() {
-        let answer = answer_one(plan, memory, records, table[i]);
-        table[i] = with_answer(table[i], answer);
+    for exchange in table.iter_mut() {
+        let answer = answer_one(plan, memory, records, *exchange);
+        exchange.answer = code_of_answer(answer);
     }
 }
 
@@ -80,10 +79,7 @@ fn run(heap: Global, plan: &[u8], table: &mut [Exchange]) -> Result<(), Refusal>
         × (is_some (number_of e) ≡ true → outcome plan.now table.old ≡ Err e)) }
     ensures law { OnOk result (Lawful (reading plan.now) table.old) }
 {
-    let read = match read_plan(heap, plan) {
-        Ok(read) => read,
-        Err(fault) => return Err(fault.refusal),
-    };
+    let read = read_plan(heap, plan).map_err(|fault| fault.refusal)?;
     let idle = Record {
         place: 0,
         level: 0,

@@ -32,43 +32,44 @@ fn changed(
     };
     let parents = [parent, 1].to_vec(heap)?;
     let mut rank_elements = [2, 2, 2].to_vec(heap)?;
-    for _ in 3..ranks {
-        rank_elements.push(3)?;
-    }
+    rank_elements.resize(ranks as usize, 3)?;
     Ok(Plan::new(shape, parents, rank_elements))
 }
 
-// The number of the refusal, or 0 where the plan is made.
-fn refused(made: Result<Plan, Refusal>) -> u64 {
-    match made {
-        Ok(_) => 0,
-        Err(refusal) => refusal.number().unwrap_or(0) as u64,
-    }
+// The number of the refusal, if the plan is refused.
+fn refused(made: Result<Plan, Refusal>) -> Option<u64> {
+    made.err()?.number().map(u64::from)
 }
 
-// What the code answers, beside what the table says.
+// What the code answers, beside what the table says, where 0 stands for no refusal and no step.
 fn answer(rt: &impl Abort, heap: Global, plan: &Plan, case: Case) -> Result<(u64, u64), Fail> {
     let both = match case {
         Case::CounterHome(rank, home) => (questions::counter_home_of_rank(plan, rank)?, home),
         Case::Node(rank, level, home) => (questions::node_of_rank(plan, rank, level)?, home),
         Case::Queue(rank, level, home) => (questions::queue_of_rank(plan, rank, level)?, home),
-        Case::Ranks(ranks, number) => (refused(changed(heap, ranks, 1, 1)?), number as u64),
-        Case::Level2Threshold(threshold, number) => (
-            refused(changed(heap, 5, 1, threshold)?),
+        Case::Ranks(ranks, number) => (
+            refused(changed(heap, ranks, 1, 1)?).unwrap_or(0),
             number as u64,
         ),
-        Case::Parent(parent, number) => (refused(changed(heap, 5, parent, 1)?), number as u64),
-        Case::WriterEnters(rank, step) => (writer_enters(plan, rank), step),
-        Case::WriterFree(rank, step) => (writer_free(plan, rank), step),
+        Case::Level2Threshold(threshold, number) => (
+            refused(changed(heap, 5, 1, threshold)?).unwrap_or(0),
+            number as u64,
+        ),
+        Case::Parent(parent, number) => (
+            refused(changed(heap, 5, parent, 1)?).unwrap_or(0),
+            number as u64,
+        ),
+        Case::WriterEnters(rank, step) => (writer_enters(plan, rank).unwrap_or(0), step),
+        Case::WriterFree(rank, step) => (writer_free(plan, rank).unwrap_or(0), step),
         Case::TailAfterWriter(rank, home, tail) => (tail_after_writer(plan, rank, home)?, tail),
-        Case::ReaderReturns(step) => (reader_returns(plan), step),
+        Case::ReaderReturns(step) => (reader_returns(plan).unwrap_or(0), step),
         Case::CounterAfterReaders(counter, arrive, depart) => {
             let (arrived, departed) = counter_after_readers(plan, counter)?;
             assert_eq!(rt; departed, depart);
             (arrived, arrive)
         }
-        Case::HandsOnAtLevel2(count, hands) => (hands_on(rt, plan, 11, 2, count)?, hands),
-        Case::HandsOnAtLevel1(count, hands) => (hands_on(rt, plan, 14, 0, count)?, hands),
+        Case::HandsOnAtLevel2(count, hands) => (hands_on(rt, plan, 11, 2, count)? as u64, hands),
+        Case::HandsOnAtLevel1(count, hands) => (hands_on(rt, plan, 14, 0, count)? as u64, hands),
     };
     Ok(both)
 }

@@ -66,10 +66,10 @@ fn a_larger_run(rt: HostRuntime) -> Result<(), Fail> {
 #[test]
 fn what_stands_behind_the_plan(rt: HostRuntime) -> Result<(), Fail> {
     let heap = rt.alloc();
-    for told in TOLD {
-        let mut order = LARGER[0..42].to_vec(heap)?;
-        order.extend_from_slice(told.0)?;
-        assert!(rt; transcribe(heap, order.as_slice())?.as_slice() == told.1);
+    for Told(behind, lines) in TOLD {
+        let mut order = LARGER[..42].to_vec(heap)?;
+        order.extend_from_slice(behind)?;
+        assert!(rt; transcribe(heap, order.as_slice())?.as_slice() == lines);
     }
     Ok(())
 }
@@ -77,8 +77,8 @@ fn what_stands_behind_the_plan(rt: HostRuntime) -> Result<(), Fail> {
 #[test]
 fn faults_before_the_calls(rt: HostRuntime) -> Result<(), Fail> {
     let heap = rt.alloc();
-    for told in FAULTS {
-        assert!(rt; transcribe(heap, told.0)?.as_slice() == told.1);
+    for Told(order, line) in FAULTS {
+        assert!(rt; transcribe(heap, order)?.as_slice() == line);
     }
     Ok(())
 }

@@ -19,21 +19,16 @@ const IDLE: Record = Record {
     counter: 0,
 };
 
-// Which step of a rank is the first with an answer, or 0 where 20 steps have none.
+// Which of 20 steps of a rank is the first with an answer.
 fn first_step(
     plan: &Plan,
     words: &mut [u64],
     records: &mut [Record],
     rank: u16,
     wanted: Answer,
-) -> u64 {
+) -> Option<u64> {
     let mut memory = WordMemory::new(words);
-    for n in 1..21u64 {
-        if step(plan, &mut memory, records, rank) == Ok(wanted) {
-            return n;
-        }
-    }
-    0
+    (1..=20).find(|_| step(plan, &mut memory, records, rank) == Ok(wanted))
 }
 
 // One call, whatever it answers.
@@ -43,20 +38,25 @@ fn call(plan: &Plan, words: &mut [u64], records: &mut [Record], made: Call) {
 }
 
 // A rank, alone, asks to write and steps until it is in.
-fn write(plan: &Plan, words: &mut [u64], records: &mut [Record], rank: u16) -> u64 {
+fn write(plan: &Plan, words: &mut [u64], records: &mut [Record], rank: u16) -> Option<u64> {
     call(plan, words, records, Call::AskWrite { rank });
     first_step(plan, words, records, rank, Answer::Entered)
 }
 
 // And then leaves and steps until it is idle.
-fn write_and_leave(plan: &Plan, words: &mut [u64], records: &mut [Record], rank: u16) -> u64 {
+fn write_and_leave(
+    plan: &Plan,
+    words: &mut [u64],
+    records: &mut [Record],
+    rank: u16,
+) -> Option<u64> {
     let _ = write(plan, words, records, rank);
     call(plan, words, records, Call::Leave { rank });
     first_step(plan, words, records, rank, Answer::Free)
 }
 
 // Ranks 1 and 2 read, rank 1 goes out, asks again and steps until it is in.
-fn read_again(plan: &Plan, words: &mut [u64], records: &mut [Record]) -> u64 {
+fn read_again(plan: &Plan, words: &mut [u64], records: &mut [Record]) -> Option<u64> {
     call(plan, words, records, Call::AskRead { rank: 1 });
     call(plan, words, records, Call::Step { rank: 1 });
     call(plan, words, records, Call::AskRead { rank: 2 });
@@ -68,12 +68,12 @@ fn read_again(plan: &Plan, words: &mut [u64], records: &mut [Record]) -> u64 {
 }
 
 /// The step at which a lone writer enters.
-pub(crate) fn writer_enters(plan: &Plan, rank: u16) -> u64 {
+pub(crate) fn writer_enters(plan: &Plan, rank: u16) -> Option<u64> {
     write(plan, &mut [0; 40], &mut [IDLE; 5], rank)
 }
 
 /// The step at which it is free again after its leave.
-pub(crate) fn writer_free(plan: &Plan, rank: u16) -> u64 {
+pub(crate) fn writer_free(plan: &Plan, rank: u16) -> Option<u64> {
     write_and_leave(plan, &mut [0; 40], &mut [IDLE; 5], rank)
 }
 
@@ -85,7 +85,7 @@ pub(crate) fn tail_after_writer(plan: &Plan, rank: u16, home: u64) -> Result<u64
 }
 
 /// The step at which a returning reader enters.
-pub(crate) fn reader_returns(plan: &Plan) -> u64 {
+pub(crate) fn reader_returns(plan: &Plan) -> Option<u64> {
     read_again(plan, &mut [0; 40], &mut [IDLE; 5])
 }
 
@@ -98,14 +98,14 @@ pub(crate) fn counter_after_readers(plan: &Plan, counter: u16) -> Result<(u64, u
     Ok((memory.get(home, ARRIVE)?, memory.get(home, DEPART)?))
 }
 
-/// 1 if rank 1 hands on from a place with a count; its nodes at both levels have a successor.
+/// Whether rank 1 hands on from a place with a count; its nodes at both levels have a successor.
 pub(crate) fn hands_on(
     rt: &impl Abort,
     plan: &Plan,
     place: u8,
     level: u8,
     count: u64,
-) -> Result<u64, Fail> {
+) -> Result<bool, Fail> {
     let mut words = [0; 40];
     words[0] = 2;
     words[30] = 8;
@@ -119,5 +119,5 @@ pub(crate) fn hands_on(
     };
     let mut memory = WordMemory::new(&mut words);
     assert_eq!(rt; step(plan, &mut memory, &mut records, 1)?, Answer::Moved);
-    Ok(if records[0].place == 12 { 1 } else { 0 })
+    Ok(records[0].place == 12)
 }

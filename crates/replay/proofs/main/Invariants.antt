@@ -1,5 +1,5 @@
 use Rattle.std.proofs.Common.{length}
 use Rattle.replay.proofs.main.Given as goal
 
-abbrev pub decreases-loop-rest : goal.decreases-loop-rest
-decreases-loop-rest l = length l.rest
+abbrev pub decreases-loop-length : goal.decreases-loop-length
+decreases-loop-length l = length l.rest

@@ -1,21 +1,19 @@
-use Rattle.std.proofs.Common.{refl, ◌∙◌}
-use Rattle.std.proofs.lemmas.Result.{err_from_is_err_and}
-use Rattle.treelock_c.proofs.Outcomes.{law_of, told_all, unnumbered}
+use Rattle.std.proofs.Common.{◌≡◌, ◌∙◌, Ok}
+use Rattle.order.specs.Reading.{reading, reading_of}
+use Rattle.treelock_c.proofs.Outcomes.{law_of, read_through, told_all}
 use Rattle.treelock_c.proofs.run.run.Goals as goal
-
-pub returns-in_err-records : goal.returns-in_err-records
-returns-in_err-records c =
-    let p = err_from_is_err_and c.from_residual-in_err-records.result c.from_residual-in_err-records.ensures.1 in
-    rw p.1 (record { value = (refl, λ h. unnumbered p.0 p.2 h); law = tt })
 
 pub returns : goal.returns
 returns c =
+    let read : reading c.args.plan.now ≡ Ok (reading_of c.in_ok-read.read) =
+    read_through _ _ _ _ _ c.map_err.ensures.cases c.in_ok-read.was c.read_plan.ensures.value
+    in
     let words = c.as_mut_slice.ensures.value ∙ c.in_ok-words.ensures.items_if_clones_equal (λ y e. e) in
     let records = c.as_mut_slice-lent.ensures.value ∙ c.in_ok-records.ensures.items_if_clones_equal (λ y e. e) in
     record {
       value =
-          told_all c.args.plan.now c.args.table.now c.in-Ok.read _ _ _ _ _ _ c.in-Ok.ensures.value
+          told_all c.args.plan.now c.args.table.now c.in_ok-read.read _ _ _ _ _ _ read
           c.new-memory.ensures.words words records
           c.layout.ensures.words c.layout.ensures.records c.answer_all.ensures.table;
-      law = law_of c.args.plan.now c.args.table.now c.in-Ok.read c.in-Ok.ensures.value;
+      law = law_of c.args.plan.now c.args.table.now c.in_ok-read.read read;
     }
