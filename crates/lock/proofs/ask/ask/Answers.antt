@@ -1,10 +1,10 @@
-use Rattle.std.proofs.Common.{sym, ap, ◌∙◌, arith}
+use Rattle.std.proofs.Common.{sym, ◌∙◌, arith}
 use Rattle.std.proofs.lemmas.Result.{err_from_is_err_and}
 use Rattle.plan.specs.Trees.{tree_of}
 use Rattle.places.specs.Standings.{standing_at}
 use Rattle.places.specs.declared.place.Place.{Place}
 use Rattle.lock.proofs.Tested.{turn_refused, turn_taken}
-use Rattle.lock.specs.Turns.{Turn, asked_at}
+use Rattle.lock.specs.Turns.{asked_at}
 use Rattle.lock.proofs.ask.ask.Goals as goal
 
 pub returns-in_err-place_of : goal.returns-in_err-place_of
@@ -15,10 +15,7 @@ returns-in_err-place_of c =
     let e =
     turn_refused (tree_of c.args.plan.now) rs p (λ (q : Place). asked_at rs p c.args.to (standing_at q)) _
     (sym c.place_of.ensures.value ∙ c.in_err-place_of.was) in
-    record {
-      value = rw (r.1, r.2) (sym (ap (λ (x : Turn). x.answer) e));
-      records = sym (ap (λ (x : Turn). x.records) e);
-    }
+    grind arith
 
 pub returns-then-ne : goal.returns-then-ne
 returns-then-ne c =

@@ -1,4 +1,4 @@
-use Rattle.std.proofs.Common.{◌≡◌, sym, ◌∙◌, rules}
+use Rattle.std.proofs.Common.{◌≡◌, sym, ◌∙◌, arith, rules}
 use Rattle.std.proofs.lemmas.Result.{err_from_is_err_and}
 use Rattle.plan.specs.Trees.{tree_of}
 use Rattle.places.specs.Table.{access_of}
@@ -12,8 +12,8 @@ returns-in_err-old-clause-kept g c =
     let r = err_from_is_err_and c.from_residual-in_err-old.result c.from_residual-in_err-old.ensures.1 in
     rw r.1
     (c.perform.ensures.after
-    ∙ memory_refused (g.M.ReadMemory.words c.args.memory.now) a.home a.offset a.operation _
-    (sym c.perform.ensures.value ∙ c.in_err-old.was))
+    ∙ memory_refused (g.M.ReadMemory.words c.args.memory.now) a.home a.offset a.operation
+    c.in_err-old.field-0.0 (grind arith))
 
 pub returns-clause-kept : goal.returns-clause-kept
 returns-clause-kept g c =
