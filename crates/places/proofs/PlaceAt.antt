@@ -1,5 +1,5 @@
 -- What a call makes of the place at which a rank stands, or of the refusal in its stead.
-use Rattle.std.proofs.Common.{◌≡◌, ℕ, ◌-◌, Bool, true, false, cond, List, length, Some, None, Ok, Err, Option, Result, nat_le, ok_or, slice_index_or, ap, sym}
+use Rattle.std.proofs.Common.{◌≡◌, ℕ, ◌-◌, Bool, true, false, cond, List, length, Some, None, Ok, Err, Option, nat_le, ok_or, slice_index_or}
 use Rattle.refusal.specs.declared.Refusal.{Refusal}
 use Rattle.refusal.specs.declared.Refusal.TheVariants.{Spoiled, TooShort, UnknownRank}
 use Rattle.plan.specs.Trees.{Tree, has_rank}

@@ -18,8 +18,8 @@ returns-in_err-place c =
     let p = c.args.rank in
     let r = err_from_is_err_and c.from_residual.result c.from_residual.ensures.1 in
     let e =
-        turn_refused t rs p (λ (q : Place). left_at t rs p (standing_at q)) _
-        (sym c.place_of.ensures.value ∙ c.in_err-place.was) in
+    turn_refused t rs p (λ (q : Place). left_at t rs p (standing_at q)) _
+    (sym c.place_of.ensures.value ∙ c.in_err-place.was) in
     grind arith
 
 pub returns-in-Resting : goal.returns-in-Resting
@@ -28,8 +28,8 @@ returns-in-Resting c =
     let rs = c.args.records.now in
     let p = c.args.rank in
     let e =
-        turn_taken t rs p (λ (q : Place). left_at t rs p (standing_at q)) _
-        (sym c.place_of.ensures.value ∙ c.in_ok-place.was) in
+    turn_taken t rs p (λ (q : Place). left_at t rs p (standing_at q)) _
+    (sym c.place_of.ensures.value ∙ c.in_ok-place.was) in
     grind arith
 
 pub returns : goal.returns
@@ -38,25 +38,25 @@ returns c =
     let rs = c.args.records.now in
     let p = c.args.rank in
     let e =
-        turn_taken t rs p (λ (q : Place). left_at t rs p (standing_at q)) c.in_ok-place.place
-        (sym c.place_of.ensures.value ∙ c.in_ok-place.was) in
+    turn_taken t rs p (λ (q : Place). left_at t rs p (standing_at q)) c.in_ok-place.place
+    (sym c.place_of.ensures.value ∙ c.in_ok-place.was) in
     elim c.match-standing.branch [
-      in-Writing w ↦
-        let f = e ∙ ap (left_at t rs p) (sym w.in-Writing.ensures) in
-        let to : c.match-standing.to ≡ exit_of t p = cc in
-        record {
-          value = sym (ap (λ (x : Turn). x.answer) f);
-          records =
-              ap (λ (r : Record). set rs (p - 1) r) (c.from.ensures ∙ ap recorded to)
-              ∙ sym (ap (λ (x : Turn). x.records) f);
-        }
-    | in-Reading w ↦
-        let f = e ∙ ap (left_at t rs p) (sym w.in-Reading.ensures) in
-        let to : c.match-standing.to ≡ R7 = cc in
-        record {
-          value = sym (ap (λ (x : Turn). x.answer) f);
-          records =
-              ap (λ (r : Record). set rs (p - 1) r) (c.from.ensures ∙ ap recorded to)
-              ∙ sym (ap (λ (x : Turn). x.records) f);
-        }
+      | in-Writing w ↦
+          let f = e ∙ ap (left_at t rs p) (sym w.in-Writing.ensures) in
+          let to : c.match-standing.to ≡ exit_of t p = cc in
+          record {
+            value = sym (ap (λ (x : Turn). x.answer) f);
+            records =
+                ap (λ (r : Record). set rs (p - 1) r) (c.from.ensures ∙ ap recorded to)
+                ∙ sym (ap (λ (x : Turn). x.records) f);
+          }
+      | in-Reading w ↦
+          let f = e ∙ ap (left_at t rs p) (sym w.in-Reading.ensures) in
+          let to : c.match-standing.to ≡ R7 = cc in
+          record {
+            value = sym (ap (λ (x : Turn). x.answer) f);
+            records =
+                ap (λ (r : Record). set rs (p - 1) r) (c.from.ensures ∙ ap recorded to)
+                ∙ sym (ap (λ (x : Turn). x.records) f);
+          }
     ]

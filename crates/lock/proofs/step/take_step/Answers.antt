@@ -8,21 +8,21 @@ pub returns-in_err-place : goal.returns-in_err-place
 returns-in_err-place g c =
     let r = err_from_is_err_and c.from_residual.result c.from_residual.ensures.1 in
     let e =
-        step_refused (tree_of c.args.plan.now) (g.M.ReadMemory.words c.args.memory.now) c.args.records.now c.args.rank
-        _ (grind arith) (sym c.place_of.ensures.value ∙ c.in_err-place.was) in
+    step_refused (tree_of c.args.plan.now) (g.M.ReadMemory.words c.args.memory.now) c.args.records.now c.args.rank
+    _ (grind arith) (sym c.place_of.ensures.value ∙ c.in_err-place.was) in
     grind arith
 
 pub returns-in_err-next : goal.returns-in_err-next
 returns-in_err-next g c =
     let r = err_from_is_err_and c.from_residual-in_err-next.result c.from_residual-in_err-next.ensures.1 in
     let e =
-        step_taken (tree_of c.args.plan.now) (g.M.ReadMemory.words c.args.memory.now) c.args.records.now c.args.rank
-        _ (grind arith) (sym c.place_of.ensures.value ∙ c.in_ok-place.was) in
+    step_taken (tree_of c.args.plan.now) (g.M.ReadMemory.words c.args.memory.now) c.args.records.now c.args.rank
+    _ (grind arith) (sym c.place_of.ensures.value ∙ c.in_ok-place.was) in
     grind arith
 
 pub returns : goal.returns
 returns g c =
     let e =
-        step_taken (tree_of c.args.plan.now) (g.M.ReadMemory.words c.args.memory.now) c.args.records.now c.args.rank
-        _ (grind arith) (sym c.place_of.ensures.value ∙ c.in_ok-place.was) in
+    step_taken (tree_of c.args.plan.now) (g.M.ReadMemory.words c.args.memory.now) c.args.records.now c.args.rank
+    _ (grind arith) (sym c.place_of.ensures.value ∙ c.in_ok-place.was) in
     grind arith
