@@ -1,4 +1,4 @@
-pub mod Idled
 pub mod AnyIn
 pub mod Refused
 pub mod OneWord
+pub mod Tested

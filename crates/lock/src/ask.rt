@@ -6,7 +6,7 @@ ghost use Rattle.lock.specs.Turns.{asked, asked_to_read, asked_to_write};
 
 use places::answer::Answer;
 use places::place::{Place, Standing};
-use places::record::{Record, has_records, parse, record_of};
+use places::record::{Record, place_of};
 use plan::plan::Plan;
 use refusal::Refusal;
 
@@ -16,23 +16,11 @@ fn ask(plan: &Plan, records: &mut [Record], rank: u16, to: Place) -> Result<Answ
     ensures records { records.new
         ≡ (asked (tree_of plan.now) records.old rank to).records }
 {
-    if !has_records(plan, records) {
-        return Err(Refusal::TooShort);
+    if place_of(plan, records, rank)?.standing() != Standing::Resting {
+        return Err(Refusal::NotIdle);
     }
-    if !plan.has_rank(rank) {
-        return Err(Refusal::UnknownRank);
-    }
-    let at = rank as usize - 1;
-    let Some(place) = parse(plan, rank, &records[at]) else {
-        return Err(Refusal::Spoiled);
-    };
-    match place.standing() {
-        Standing::Resting => {
-            records[at] = record_of(to);
-            Ok(Answer::Asked)
-        }
-        Standing::UnderWay | Standing::Writing | Standing::Reading => Err(Refusal::NotIdle),
-    }
+    records[rank as usize - 1] = Record::from(to);
+    Ok(Answer::Asked)
 }
 
 /// An idle rank asks to write: it begins at its own level. Refused by 5, 6, 7 or 8.

@@ -6,8 +6,7 @@ ghost use Rattle.lock.specs.Layouts.{cleared, home_cleared, idled, laid_answer, 
 
 use crate::room::has_room;
 use memory::{HOME_WORDS, Memory};
-use places::place::Place;
-use places::record::{Record, record_of};
+use places::record::Record;
 use plan::plan::Plan;
 use refusal::Refusal;
 
@@ -22,13 +21,13 @@ fn clear_home<M: Memory>(memory: &mut M, home: u64)
     }
 }
 
-// Zeros in the words of the homes from 1 on, below `end`.
-fn clear_homes<M: Memory>(memory: &mut M, end: u64)
-    requires { (1 ≤ end) × (end ≤ (M.ReadMemory.words memory.old).count + 1) }
+// Zeros in the words of the homes from 1 on, up to the last.
+fn clear_homes<M: Memory>(memory: &mut M, last: u64)
+    requires { last ≤ (M.ReadMemory.words memory.old).count }
     ensures { M.ReadMemory.words memory.new
-        ≡ cleared (M.ReadMemory.words memory.old) end }
+        ≡ cleared (M.ReadMemory.words memory.old) (last + 1) }
 {
-    for home in 1..end {
+    for home in 1..=last {
         clear_home(memory, home);
     }
 }
@@ -38,9 +37,7 @@ fn idle_all(records: &mut [Record], n: usize)
     requires { n ≤ length records.old }
     ensures { records.new ≡ idled records.old n }
 {
-    for j in 0..n {
-        records[j] = record_of(Place::Idle);
-    }
+    records[..n].fill(Record::IDLE);
 }
 
 /// Lays a lock out: zeros in its words and nothing beyond, a record idle for each rank and no further one.
@@ -58,7 +55,7 @@ pub fn layout<M: Memory>(plan: &Plan, memory: &mut M, records: &mut [Record]) ->
     if !has_room(plan, memory, records) {
         return Err(Refusal::TooShort);
     }
-    clear_homes(memory, plan.homes() + 1);
+    clear_homes(memory, plan.homes());
     idle_all(records, plan.shape().ranks as usize);
     Ok(())
 }

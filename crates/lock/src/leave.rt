@@ -6,7 +6,7 @@ ghost use Rattle.lock.specs.Turns.{exit_of, left};
 
 use places::answer::Answer;
 use places::place::{Place, Standing};
-use places::record::{Record, has_records, parse, record_of};
+use places::record::{Record, place_of};
 use plan::plan::Plan;
 use refusal::Refusal;
 
@@ -28,21 +28,12 @@ pub fn leave(plan: &Plan, records: &mut [Record], rank: u16) -> Result<Answer, R
     ensures records { records.new
         ≡ (left (tree_of plan.now) records.old rank).records }
 {
-    if !has_records(plan, records) {
-        return Err(Refusal::TooShort);
-    }
-    if !plan.has_rank(rank) {
-        return Err(Refusal::UnknownRank);
-    }
-    let at = rank as usize - 1;
-    let Some(place) = parse(plan, rank, &records[at]) else {
-        return Err(Refusal::Spoiled);
-    };
+    let place = place_of(plan, records, rank)?;
     let to = match place.standing() {
         Standing::Resting | Standing::UnderWay => return Err(Refusal::NotIn),
         Standing::Writing => exit_place(plan, rank),
         Standing::Reading => Place::R7,
     };
-    records[at] = record_of(to);
+    records[rank as usize - 1] = Record::from(to);
     Ok(Answer::Leaving)
 }

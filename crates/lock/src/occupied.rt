@@ -4,6 +4,7 @@ ghost use Rattle.std.specs.Prelude.{◌≡◌, ◌≤◌, length};
 ghost use Rattle.plan.specs.Trees.{tree_of};
 ghost use Rattle.lock.specs.Layouts.{any_in, is_in, occupied_by};
 
+use places::place::Place;
 use places::record::{Record, has_records};
 use plan::plan::Plan;
 use refusal::Refusal;
@@ -12,7 +13,7 @@ use refusal::Refusal;
 fn says_in(r: &Record) -> bool
     ensures { result ≡ is_in r.now }
 {
-    r.place == 27 || r.place == 28
+    matches!(Place::try_from(*r), Ok(Place::Writer | Place::Reader))
 }
 
 // Some of the first records says so.
@@ -20,12 +21,7 @@ fn some_in(records: &[Record], n: usize) -> bool
     requires { n ≤ length records.now }
     ensures { result ≡ any_in records.now n }
 {
-    for j in 0..n {
-        if says_in(&records[j]) {
-            return true;
-        }
-    }
-    false
+    records[..n].iter().any(says_in)
 }
 
 /// Whether some rank of the plan is in; refused only by 5. A record with an unknown place says no.

@@ -12,7 +12,7 @@ use places::access::next_access;
 use places::answer::Answer;
 use places::follow::{Next, follow};
 use places::place::Place;
-use places::record::{Record, parse, record_of};
+use places::record::{Record, place_of};
 use plan::plan::Plan;
 use refusal::Refusal;
 
@@ -26,13 +26,9 @@ fn row<M: Memory>(plan: &Plan, memory: &mut M, rank: u16, place: Place) -> Resul
     ensures kept { OnErr result (M.ReadMemory.words memory.new
         ≡ M.ReadMemory.words memory.old) }
 {
-    match next_access(plan, rank, place) {
-        None => Err(Refusal::NotUnderWay),
-        Some(access) => match perform(memory, access.home, access.offset, access.operation) {
-            Err(refusal) => Err(refusal),
-            Ok(old) => follow(plan, rank, place, old),
-        },
-    }
+    let access = next_access(plan, rank, place).ok_or(Refusal::NotUnderWay)?;
+    let old = perform(memory, access.home, access.offset, access.operation)?;
+    follow(plan, rank, place, old)
 }
 
 // The tests, the row, and the record written.
@@ -54,15 +50,9 @@ fn take_step<M: Memory>(
     if !has_room(plan, memory, records) {
         return Err(Refusal::TooShort);
     }
-    if !plan.has_rank(rank) {
-        return Err(Refusal::UnknownRank);
-    }
-    let at = rank as usize - 1;
-    let Some(place) = parse(plan, rank, &records[at]) else {
-        return Err(Refusal::Spoiled);
-    };
+    let place = place_of(plan, records, rank)?;
     let next = row(plan, memory, rank, place)?;
-    records[at] = record_of(next.place);
+    records[rank as usize - 1] = Record::from(next.place);
     Ok(next.answer)
 }
 

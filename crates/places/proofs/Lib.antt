@@ -1,2 +1,3 @@
 pub mod ReadBack
-pub mod Touching
+pub mod PlaceAt
+pub mod Named

@@ -1,7 +1,9 @@
 -- Places as records of numbers, and back.
-use Rattle.std.specs.Prelude.{◌≡◌, ℕ, Bool, true, cond, ◌&&◌, List, [], ◌∷◌, Some, None, Option, nat_lt, slice_index_or}
+use Rattle.std.specs.Prelude.{◌≡◌, ℕ, ◌-◌, Bool, true, cond, ◌&&◌, List, [], ◌∷◌, length, Some, None, Option, Err, Result, nat_le, nat_lt, ok_or, slice_index_or}
+use Rattle.refusal.specs.declared.Refusal.{Refusal}
+use Rattle.refusal.specs.declared.Refusal.TheVariants.{Spoiled, TooShort, UnknownRank}
 use Rattle.plan.specs.Shapes.{within}
-use Rattle.plan.specs.Trees.{Tree, counters, homes, own_level}
+use Rattle.plan.specs.Trees.{Tree, counters, has_rank, homes, own_level}
 use Rattle.places.specs.declared.place.Place.{Place}
 use Rattle.places.specs.declared.place.Place.TheVariants.{Idle, W1, W2, W3, W4, W5, W6, W7, W8, W9}
 use Rattle.places.specs.declared.place.Place.TheVariants.{U1, U2, U3, U4, U5, U6, U7, U8, U9, U10}
@@ -119,3 +121,10 @@ recorded Reader = row 28 0 0 0 0
 -- a place that is written as a record is read back as the same place, if its fields are in range
 abbrev pub ReadsBack : Tree → ℕ → Place → Type 0
 ReadsBack t p q = parsed t p (recorded q) ≡ checked t p (Some q)
+
+-- the place at which rank p stands by its record, or the refusal: too few records, no such rank, a spoiled record
+abbrev pub place_at : Tree → List Record → ℕ → Result Place Refusal
+place_at t rs p =
+    cond (nat_le t.shape.ranks (length rs))
+    (cond (has_rank t p) (ok_or (parsed t p (slice_index_or rs (p - 1) (recorded Idle))) Spoiled) (Err UnknownRank))
+    (Err TooShort)

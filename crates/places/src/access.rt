@@ -34,7 +34,7 @@ fn on(home: u64, offset: u64, operation: Operation) -> Access
 fn negated(n: u64) -> u64
     ensures { result ≡ minus n }
 {
-    0u64.wrapping_sub(n)
+    n.wrapping_neg()
 }
 
 // Compares a tail with the rank's node, and clears it.

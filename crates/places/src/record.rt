@@ -1,12 +1,24 @@
 //! A rank's place as the caller's table holds it: parsed into a place or found spoiled, and written back whole.
 
-ghost use Rattle.std.specs.Prelude.{◌≡◌, ℕ, ◌<◌, ◌≤◌, length, Some, nat_le};
+ghost use Rattle.std.specs.Prelude.{◌≡◌, ℕ, ◌≤◌, IfOk, length, nat_le, ok_or};
+ghost use Rattle.refusal.specs.declared.Refusal.TheVariants.{Spoiled};
 ghost use Rattle.plan.specs.Shapes.{within};
 ghost use Rattle.plan.specs.Trees.{Tree, own_level, tree_of};
-ghost use Rattle.places.specs.Records.{ReadsBack, counter_fits, fits, home_fits, named, parsed, recorded, row};
+ghost use Rattle.places.specs.Records.{
+  ReadsBack,
+  counter_fits,
+  fits,
+  home_fits,
+  named,
+  parsed,
+  place_at,
+  recorded,
+  row,
+};
 
 use crate::place::Place;
 use plan::plan::Plan;
+use refusal::Refusal;
 
 /// The number of a place, and the fields that places use; a place's other fields are 0.
 #[derive(Clone, Copy, PartialEq, Eq, Debug)]
@@ -18,90 +30,68 @@ pub struct Record {
     pub counter: u16,
 }
 
-// Places 0 to 9.
-fn asking_place(r: &Record) -> Place
-    requires { r.now.place < 10 }
-    ensures { Some result ≡ named r.now }
-{
-    let level = r.level;
-    let counter = r.counter;
-    match r.place {
-        0 => Place::Idle,
-        1 => Place::W1 { level },
-        2 => Place::W2 { level },
-        3 => Place::W3 { level },
-        4 => Place::W4 {
-            level,
-            home: r.home,
-        },
-        5 => Place::W5 { level },
-        6 => Place::W6 { level },
-        7 => Place::W7 { counter },
-        8 => Place::W8 { counter },
-        _ => Place::W9 {
-            counter,
-            number: r.number,
-        },
-    }
+impl Record {
+    /// The record of an idle rank: zeros.
+    pub const IDLE: Record = Record {
+        place: 0,
+        level: 0,
+        home: 0,
+        number: 0,
+        counter: 0,
+    };
 }
 
-// Places 10 to 19.
-fn leaving_place(r: &Record) -> Place
-    requires { (10 ≤ r.now.place) × (r.now.place < 20) }
-    ensures { Some result ≡ named r.now }
-{
-    let level = r.level;
-    let counter = r.counter;
-    let number = r.number;
-    let home = r.home;
-    match r.place {
-        10 => Place::U1 { level },
-        11 => Place::U2 { level, number },
-        12 => Place::U3 {
+/// The place that a record names, whatever its fields hold. A number that is no place's is refused by 7.
+impl TryFrom<Record> for Place {
+    type Error = Refusal;
+
+    ghost try_from_gives = { λ r q. q ≡ ok_or (named r) Spoiled };
+
+    fn try_from(record: Record) -> Result<Place, Refusal> {
+        let Record {
+            place,
             level,
             home,
             number,
-        },
-        13 => Place::U4,
-        14 => Place::U5 { number },
-        15 => Place::U6 { counter },
-        16 => Place::U7 { counter, number },
-        17 => Place::U8 { level },
-        18 => Place::U9 { level, home },
-        _ => Place::U10 { level },
-    }
-}
-
-// Places 20 to 28.
-fn reading_place(r: &Record) -> Place
-    requires { (20 ≤ r.now.place) × (r.now.place < 29) }
-    ensures { Some result ≡ named r.now }
-{
-    match r.place {
-        20 => Place::R1,
-        21 => Place::R2,
-        22 => Place::R3,
-        23 => Place::R4,
-        24 => Place::R5,
-        25 => Place::R6 { number: r.number },
-        26 => Place::R7,
-        27 => Place::Writer,
-        _ => Place::Reader,
-    }
-}
-
-// The place that a record names, whatever its fields hold.
-fn named_place(r: &Record) -> Option<Place>
-    ensures { result ≡ named r.now }
-{
-    if r.place < 10 {
-        Some(asking_place(r))
-    } else if r.place < 20 {
-        Some(leaving_place(r))
-    } else if r.place < 29 {
-        Some(reading_place(r))
-    } else {
-        None
+            counter,
+        } = record;
+        let named = match place {
+            0 => Place::Idle,
+            1 => Place::W1 { level },
+            2 => Place::W2 { level },
+            3 => Place::W3 { level },
+            4 => Place::W4 { level, home },
+            5 => Place::W5 { level },
+            6 => Place::W6 { level },
+            7 => Place::W7 { counter },
+            8 => Place::W8 { counter },
+            9 => Place::W9 { counter, number },
+            10 => Place::U1 { level },
+            11 => Place::U2 { level, number },
+            12 => Place::U3 {
+                level,
+                home,
+                number,
+            },
+            13 => Place::U4,
+            14 => Place::U5 { number },
+            15 => Place::U6 { counter },
+            16 => Place::U7 { counter, number },
+            17 => Place::U8 { level },
+            18 => Place::U9 { level, home },
+            19 => Place::U10 { level },
+            20 => Place::R1,
+            21 => Place::R2,
+            22 => Place::R3,
+            23 => Place::R4,
+            24 => Place::R5,
+            25 => Place::R6 { number },
+            26 => Place::R7,
+            27 => Place::Writer,
+            28 => Place::Reader,
+            _ => return Err(Refusal::Spoiled),
+        };
+        Ok(named)
     }
 }
 
@@ -109,14 +99,14 @@ fn named_place(r: &Record) -> Option<Place>
 fn level_is_in(plan: &Plan, rank: u16, low: u8, level: u8) -> bool
     ensures { result ≡ within low (own_level (tree_of plan.now) rank) level }
 {
-    low <= level && level <= plan.own_level(rank)
+    (low..=plan.own_level(rank)).contains(&level)
 }
 
 // A home of the lock.
 fn home_is_in(plan: &Plan, home: u64) -> bool
     ensures { result ≡ home_fits (tree_of plan.now) home }
 {
-    1 <= home && home <= plan.homes()
+    (1..=plan.homes()).contains(&home)
 }
 
 // A counter of the lock.
@@ -172,15 +162,11 @@ fn fields_fit(plan: &Plan, rank: u16, place: Place) -> bool
 pub fn parse(plan: &Plan, rank: u16, r: &Record) -> Option<Place>
     ensures { result ≡ parsed (tree_of plan.now) rank r.now }
 {
-    let place = named_place(r)?;
-    if fields_fit(plan, rank, place) {
-        Some(place)
-    } else {
-        None
-    }
+    let place = Place::try_from(*r).ok()?;
+    fields_fit(plan, rank, place).then_some(place)
 }
 
-// A record of numbers, in the order of the fields.
+// A record of numbers, in the order of the fields: so each place is one line below, and with names it would be six.
 fn numbers(place: u8, level: u8, home: u64, number: u64, counter: u16) -> Record
     ensures { result ≡ row place level home number counter }
 {
@@ -193,44 +179,46 @@ fn numbers(place: u8, level: u8, home: u64, number: u64, counter: u16) -> Record
     }
 }
 
-// The numbers of a place.
-fn numbers_of(place: Place) -> Record
-    ensures { result ≡ recorded place }
-{
-    match place {
-        Place::Idle => numbers(0, 0, 0, 0, 0),
-        Place::W1 { level } => numbers(1, level, 0, 0, 0),
-        Place::W2 { level } => numbers(2, level, 0, 0, 0),
-        Place::W3 { level } => numbers(3, level, 0, 0, 0),
-        Place::W4 { level, home } => numbers(4, level, home, 0, 0),
-        Place::W5 { level } => numbers(5, level, 0, 0, 0),
-        Place::W6 { level } => numbers(6, level, 0, 0, 0),
-        Place::W7 { counter } => numbers(7, 0, 0, 0, counter),
-        Place::W8 { counter } => numbers(8, 0, 0, 0, counter),
-        Place::W9 { counter, number } => numbers(9, 0, 0, number, counter),
-        Place::U1 { level } => numbers(10, level, 0, 0, 0),
-        Place::U2 { level, number } => numbers(11, level, 0, number, 0),
-        Place::U3 {
-            level,
-            home,
-            number,
-        } => numbers(12, level, home, number, 0),
-        Place::U4 => numbers(13, 0, 0, 0, 0),
-        Place::U5 { number } => numbers(14, 0, 0, number, 0),
-        Place::U6 { counter } => numbers(15, 0, 0, 0, counter),
-        Place::U7 { counter, number } => numbers(16, 0, 0, number, counter),
-        Place::U8 { level } => numbers(17, level, 0, 0, 0),
-        Place::U9 { level, home } => numbers(18, level, home, 0, 0),
-        Place::U10 { level } => numbers(19, level, 0, 0, 0),
-        Place::R1 => numbers(20, 0, 0, 0, 0),
-        Place::R2 => numbers(21, 0, 0, 0, 0),
-        Place::R3 => numbers(22, 0, 0, 0, 0),
-        Place::R4 => numbers(23, 0, 0, 0, 0),
-        Place::R5 => numbers(24, 0, 0, 0, 0),
-        Place::R6 { number } => numbers(25, 0, 0, number, 0),
-        Place::R7 => numbers(26, 0, 0, 0, 0),
-        Place::Writer => numbers(27, 0, 0, 0, 0),
-        Place::Reader => numbers(28, 0, 0, 0, 0),
+/// The record of a place, with 0 in the fields that it does not use.
+impl From<Place> for Record {
+    ghost from_gives = { λ q r. r ≡ recorded q };
+
+    fn from(place: Place) -> Record {
+        match place {
+            Place::Idle => Record::IDLE,
+            Place::W1 { level } => numbers(1, level, 0, 0, 0),
+            Place::W2 { level } => numbers(2, level, 0, 0, 0),
+            Place::W3 { level } => numbers(3, level, 0, 0, 0),
+            Place::W4 { level, home } => numbers(4, level, home, 0, 0),
+            Place::W5 { level } => numbers(5, level, 0, 0, 0),
+            Place::W6 { level } => numbers(6, level, 0, 0, 0),
+            Place::W7 { counter } => numbers(7, 0, 0, 0, counter),
+            Place::W8 { counter } => numbers(8, 0, 0, 0, counter),
+            Place::W9 { counter, number } => numbers(9, 0, 0, number, counter),
+            Place::U1 { level } => numbers(10, level, 0, 0, 0),
+            Place::U2 { level, number } => numbers(11, level, 0, number, 0),
+            Place::U3 {
+                level,
+                home,
+                number,
+            } => numbers(12, level, home, number, 0),
+            Place::U4 => numbers(13, 0, 0, 0, 0),
+            Place::U5 { number } => numbers(14, 0, 0, number, 0),
+            Place::U6 { counter } => numbers(15, 0, 0, 0, counter),
+            Place::U7 { counter, number } => numbers(16, 0, 0, number, counter),
+            Place::U8 { level } => numbers(17, level, 0, 0, 0),
+            Place::U9 { level, home } => numbers(18, level, home, 0, 0),
+            Place::U10 { level } => numbers(19, level, 0, 0, 0),
+            Place::R1 => numbers(20, 0, 0, 0, 0),
+            Place::R2 => numbers(21, 0, 0, 0, 0),
+            Place::R3 => numbers(22, 0, 0, 0, 0),
+            Place::R4 => numbers(23, 0, 0, 0, 0),
+            Place::R5 => numbers(24, 0, 0, 0, 0),
+            Place::R6 { number } => numbers(25, 0, 0, number, 0),
+            Place::R7 => numbers(26, 0, 0, 0, 0),
+            Place::Writer => numbers(27, 0, 0, 0, 0),
+            Place::Reader => numbers(28, 0, 0, 0, 0),
+        }
     }
 }
 
@@ -240,7 +228,7 @@ pub fn record_of(place: Place) -> Record
     ensures value { result ≡ recorded place }
     ensures back { (t : Tree) (p : ℕ) → ReadsBack t p place }
 {
-    numbers_of(place)
+    Record::from(place)
 }
 
 /// Whether there is a record for each rank of a plan.
@@ -248,4 +236,19 @@ pub fn has_records(plan: &Plan, records: &[Record]) -> bool
     ensures { result ≡ nat_le (tree_of plan.now).shape.ranks (length records.now) }
 {
     plan.shape().ranks as usize <= records.len()
+}
+
+/// The place at which a rank stands, by its record. Too few records are refused by 5, an unknown rank by 6, and a
+/// spoiled record by 7.
+pub fn place_of(plan: &Plan, records: &[Record], rank: u16) -> Result<Place, Refusal>
+    ensures value { result ≡ place_at (tree_of plan.now) records.now rank }
+    ensures inside { IfOk result (λ _. (1 ≤ rank) × (rank ≤ length records.now)) }
+{
+    if !has_records(plan, records) {
+        return Err(Refusal::TooShort);
+    }
+    if !plan.has_rank(rank) {
+        return Err(Refusal::UnknownRank);
+    }
+    parse(plan, rank, &records[rank as usize - 1]).ok_or(Refusal::Spoiled)
 }

@@ -7,24 +7,13 @@ ghost use Rattle.places.specs.Touches.{touched, touching};
 
 use crate::access::next_access;
 use crate::place::Place;
-use crate::record::{Record, has_records, parse, record_of};
+use crate::record::{Record, place_of};
 use memory::{ARRIVE, DEPART, NEXT, STATUS, TAIL};
 use plan::plan::Plan;
 use refusal::Refusal;
 
-const NONE: u8 = 0;
-
-const GET: u8 = 1;
-
-const PUT: u8 = 2;
-
-const SWAP: u8 = 3;
-
-const ADD: u8 = 4;
-
-const CAS: u8 = 5;
-
 /// An operation (1 get, 2 put, 3 swap, 4 add, 5 cas), its home and its offset; three zeros for none.
+/// The operation is a number by the lock's interface: whoever asks what a step touches is told numbers.
 #[derive(Clone, Copy, PartialEq, Eq, Debug)]
 pub struct Touch {
     pub operation: u8,
@@ -32,58 +21,65 @@ pub struct Touch {
     pub offset: u64,
 }
 
+// What a touch does to its word.
+#[derive(Clone, Copy)]
+enum Kind {
+    Nothing = 0,
+    Get = 1,
+    Put = 2,
+    Swap = 3,
+    Add = 4,
+    Cas = 5,
+}
+
 // The operation and the offset of each place, by its number.
-const TOUCHES: [(u8, u64); 29] = [
-    (NONE, 0), // idle
-    (PUT, NEXT), // W1
-    (PUT, STATUS), // W2
-    (SWAP, TAIL), // W3
-    (PUT, NEXT), // W4
-    (GET, STATUS), // W5
-    (PUT, STATUS), // W6
-    (ADD, ARRIVE), // W7
-    (GET, ARRIVE), // W8
-    (GET, DEPART), // W9
-    (GET, STATUS), // U1
-    (GET, NEXT), // U2
-    (PUT, STATUS), // U3
-    (GET, STATUS), // U4
-    (GET, NEXT), // U5
-    (SWAP, DEPART), // U6
-    (ADD, ARRIVE), // U7
-    (GET, NEXT), // U8
-    (PUT, STATUS), // U9
-    (CAS, TAIL), // U10
-    (ADD, ARRIVE), // R1
-    (ADD, ARRIVE), // R2
-    (GET, ARRIVE), // R3
-    (GET, TAIL), // R4
-    (SWAP, DEPART), // R5
-    (ADD, ARRIVE), // R6
-    (ADD, DEPART), // R7
-    (NONE, 0), // in as writer
-    (NONE, 0), // in as reader
+const TOUCHES: [(Kind, u64); 29] = [
+    (Kind::Nothing, 0), // idle
+    (Kind::Put, NEXT), // W1
+    (Kind::Put, STATUS), // W2
+    (Kind::Swap, TAIL), // W3
+    (Kind::Put, NEXT), // W4
+    (Kind::Get, STATUS), // W5
+    (Kind::Put, STATUS), // W6
+    (Kind::Add, ARRIVE), // W7
+    (Kind::Get, ARRIVE), // W8
+    (Kind::Get, DEPART), // W9
+    (Kind::Get, STATUS), // U1
+    (Kind::Get, NEXT), // U2
+    (Kind::Put, STATUS), // U3
+    (Kind::Get, STATUS), // U4
+    (Kind::Get, NEXT), // U5
+    (Kind::Swap, DEPART), // U6
+    (Kind::Add, ARRIVE), // U7
+    (Kind::Get, NEXT), // U8
+    (Kind::Put, STATUS), // U9
+    (Kind::Cas, TAIL), // U10
+    (Kind::Add, ARRIVE), // R1
+    (Kind::Add, ARRIVE), // R2
+    (Kind::Get, ARRIVE), // R3
+    (Kind::Get, TAIL), // R4
+    (Kind::Swap, DEPART), // R5
+    (Kind::Add, ARRIVE), // R6
+    (Kind::Add, DEPART), // R7
+    (Kind::Nothing, 0), // in as writer
+    (Kind::Nothing, 0), // in as reader
 ];
 
 // The home of a place's access, or 0.
 fn home_at(plan: &Plan, rank: u16, place: Place) -> u64
     ensures { result ≡ (touching (access_of (tree_of plan.now) rank place)).home }
 {
-    match next_access(plan, rank, place) {
-        None => 0,
-        Some(access) => access.home,
-    }
+    next_access(plan, rank, place).map_or(0, |access| access.home)
 }
 
 // What a rank at a place will touch.
 fn touch_at(plan: &Plan, rank: u16, place: Place) -> Touch
     ensures { result ≡ touching (access_of (tree_of plan.now) rank place) }
 {
-    let (operation, offset) = TOUCHES[record_of(place).place as usize];
-    let home = home_at(plan, rank, place);
+    let (kind, offset) = TOUCHES[Record::from(place).place as usize];
     Touch {
-        operation,
-        home,
+        operation: kind as u8,
+        home: home_at(plan, rank, place),
         offset,
     }
 }
@@ -92,14 +88,6 @@ fn touch_at(plan: &Plan, rank: u16, place: Place) -> Touch
 pub fn next_touch(plan: &Plan, records: &[Record], rank: u16) -> Result<Touch, Refusal>
     ensures { result ≡ touched (tree_of plan.now) records.now rank }
 {
-    if !has_records(plan, records) {
-        return Err(Refusal::TooShort);
-    }
-    if !plan.has_rank(rank) {
-        return Err(Refusal::UnknownRank);
-    }
-    match parse(plan, rank, &records[rank as usize - 1]) {
-        None => Err(Refusal::Spoiled),
-        Some(place) => Ok(touch_at(plan, rank, place)),
-    }
+    let place = place_of(plan, records, rank)?;
+    Ok(touch_at(plan, rank, place))
 }

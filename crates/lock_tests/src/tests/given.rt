@@ -32,15 +32,6 @@ pub(crate) fn plan_a(heap: Global) -> Result<Plan, Fail> {
     Ok(Plan::new(shape, parents, rank_elements)?)
 }
 
-/// The record of an idle rank.
-pub const IDLE: Record = Record {
-    place: 0,
-    level: 0,
-    home: 0,
-    number: 0,
-    counter: 0,
-};
-
 /// A place, the lowest level that it takes (0 where it uses none), and whether it uses a home, a number, a counter.
 #[derive(Clone, Copy)]
 pub struct Uses(pub u8, pub u8, pub bool, pub bool, pub bool);
@@ -85,23 +76,25 @@ fn either<T: Drop>(used: bool, value: T, other: T) -> T {
 
 /// The lowest values of the used fields, and those of `other` in the rest.
 pub(crate) fn lowest(uses: Uses, other: Record) -> Record {
+    let Uses(place, lowest_level, home, number, counter) = uses;
     Record {
-        place: uses.0,
-        level: either(uses.1 > 0, uses.1, other.level),
-        home: either(uses.2, 1, other.home),
-        number: either(uses.3, 0, other.number),
-        counter: either(uses.4, 0, other.counter),
+        place,
+        level: either(lowest_level > 0, lowest_level, other.level),
+        home: either(home, 1, other.home),
+        number: either(number, 0, other.number),
+        counter: either(counter, 0, other.counter),
     }
 }
 
 /// The highest values of the used fields, and those of `other` in the rest.
 pub(crate) fn highest(uses: Uses, other: Record) -> Record {
+    let Uses(place, lowest_level, home, number, counter) = uses;
     Record {
-        place: uses.0,
-        level: either(uses.1 > 0, 2, other.level),
-        home: either(uses.2, 8, other.home),
-        number: either(uses.3, u64::MAX, other.number),
-        counter: either(uses.4, 2, other.counter),
+        place,
+        level: either(lowest_level > 0, 2, other.level),
+        home: either(home, 8, other.home),
+        number: either(number, u64::MAX, other.number),
+        counter: either(counter, 2, other.counter),
     }
 }
 
@@ -114,11 +107,11 @@ pub(crate) fn all_refuse<M: Memory>(
     ranks: &[u16],
     refusal: Refusal,
 ) {
-    for rank in ranks.iter() {
-        assert_eq!(rt; step(plan, memory, records, *rank), Err(refusal));
-        assert_eq!(rt; ask_to_write(plan, records, *rank), Err(refusal));
-        assert_eq!(rt; ask_to_read(plan, records, *rank), Err(refusal));
-        assert_eq!(rt; next_touch(plan, records, *rank), Err(refusal));
+    for &rank in ranks {
+        assert_eq!(rt; step(plan, memory, records, rank), Err(refusal));
+        assert_eq!(rt; ask_to_write(plan, records, rank), Err(refusal));
+        assert_eq!(rt; ask_to_read(plan, records, rank), Err(refusal));
+        assert_eq!(rt; next_touch(plan, records, rank), Err(refusal));
     }
 }
 

@@ -1,8 +1,6 @@
 //! Every row of the table, in every memory: what rank 4 does at a place when it finds a word there.
 
-use crate::tests::given::{
-    ENTERED as IN, FREE, IDLE, MOVED, SPOILED as BAD, WAITING as STAYS, plan_a,
-};
+use crate::tests::given::{ENTERED as IN, FREE, MOVED, SPOILED as BAD, WAITING as STAYS, plan_a};
 use lock::step::step;
 use memory::{
     ARRIVE, ByteMemory, DEPART, JoinedMemory, Memory, NEXT, ReadMemory, STATUS, TAIL, WordMemory,
@@ -135,6 +133,7 @@ static ROWS: [Row; 61] = [
     Row((26, 0, 0, 0, 0), 0, FREE, (0, 0, 0, 0, 0), 1), // R7
 ];
 
+// No From: neither type is of this crate.
 fn record((place, level, home, number, counter): Numbers) -> Record {
     Record {
         place,
@@ -145,22 +144,29 @@ fn record((place, level, home, number, counter): Numbers) -> Record {
     }
 }
 
+// The record of rank 4, among idle ones.
+fn of_rank_4(numbers: Numbers) -> [Record; 5] {
+    let mut records = [Record::IDLE; 5];
+    records[3] = record(numbers);
+    records
+}
+
 // The memory gives the row.
 fn gives<M: Memory>(rt: &impl Abort, plan: &Plan, memory: &mut M, row: Row) -> Result<(), Fail> {
     let Row(before, found, answer, after, left) = row;
-    let mut records = [IDLE, IDLE, IDLE, record(before), IDLE];
+    let mut records = of_rank_4(before);
     let touch = next_touch(plan, &records, 4)?;
     memory.put(touch.home, touch.offset, found)?;
     assert_eq!(rt; step(plan, memory, &mut records, 4), answer);
-    assert_eq!(rt; records, [IDLE, IDLE, IDLE, record(after), IDLE]);
+    assert_eq!(rt; records, of_rank_4(after));
     assert_eq!(rt; memory.get(touch.home, touch.offset), Ok(left));
     Ok(())
 }
 
 // The memory, of 8 homes, gives every row.
 fn run<M: Memory>(rt: &impl Abort, plan: &Plan, memory: &mut M) -> Result<(), Fail> {
-    for row in ROWS.iter() {
-        gives(rt, plan, memory, *row)?;
+    for &row in &ROWS {
+        gives(rt, plan, memory, row)?;
     }
     Ok(())
 }
@@ -168,10 +174,9 @@ fn run<M: Memory>(rt: &impl Abort, plan: &Plan, memory: &mut M) -> Result<(), Fa
 #[test]
 fn the_touch_of_every_place(rt: HostRuntime) -> Result<(), Fail> {
     let plan = plan_a(rt.alloc())?;
-    for (numbers, told) in TOUCHES.iter() {
-        let records = [IDLE, IDLE, IDLE, record(*numbers), IDLE];
-        let touch = next_touch(&plan, &records, 4)?;
-        assert_eq!(rt; (touch.operation, touch.home, touch.offset), *told);
+    for &(numbers, told) in &TOUCHES {
+        let touch = next_touch(&plan, &of_rank_4(numbers), 4)?;
+        assert_eq!(rt; (touch.operation, touch.home, touch.offset), told);
     }
     Ok(())
 }

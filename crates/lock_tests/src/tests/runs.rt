@@ -1,6 +1,6 @@
 //! The same run over every memory: a lone writer comes in, two writers queue up behind it, a reader waits.
 
-use crate::tests::given::{ASKED, ENTERED, IDLE, MOVED, WAITING, plan_a};
+use crate::tests::given::{ASKED, ENTERED, MOVED, WAITING, plan_a};
 use lock::ask::{ask_to_read, ask_to_write};
 use lock::layout::layout;
 use lock::occupied::is_occupied;
@@ -17,6 +17,7 @@ use refusal::Refusal;
 use std::process::Abort;
 use std::test::Fail;
 
+// A constant table names its calls by an enum: closures would have to be made for each memory that it is played in.
 #[derive(Clone, Copy)]
 enum Call {
     Write,
@@ -82,21 +83,21 @@ fn play<M: Memory>(
     records: &mut [Record],
     turns: &[Turn],
 ) {
-    for turn in turns.iter() {
-        for _ in 0..turn.2 {
-            let answer = match turn.0 {
-                Call::Write => ask_to_write(plan, records, turn.1),
-                Call::Read => ask_to_read(plan, records, turn.1),
-                Call::Step => step(plan, memory, records, turn.1),
+    for &Turn(call, rank, times, told) in turns {
+        for _ in 0..times {
+            let answer = match call {
+                Call::Write => ask_to_write(plan, records, rank),
+                Call::Read => ask_to_read(plan, records, rank),
+                Call::Step => step(plan, memory, records, rank),
             };
-            assert_eq!(rt; answer, turn.3);
+            assert_eq!(rt; answer, told);
         }
     }
 }
 
 // The whole run in a memory of any words.
 fn run<M: Memory>(rt: &impl Abort, plan: &Plan, memory: &mut M) -> Result<(), Fail> {
-    let mut records = [IDLE; 5];
+    let mut records = [Record::IDLE; 5];
     assert_eq!(rt; layout(plan, memory, &mut records), Ok(()));
     assert_eq!(rt; is_occupied(plan, &records), Ok(false));
     play(rt, plan, memory, &mut records, &COMING);

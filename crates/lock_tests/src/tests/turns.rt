@@ -1,6 +1,6 @@
 //! Calls out of turn, unknown ranks, and which refusal comes first.
 
-use crate::tests::given::{ASKED, IDLE, USES, all_refuse, highest, plan_a};
+use crate::tests::given::{ASKED, USES, all_refuse, highest, plan_a};
 use lock::ask::{ask_to_read, ask_to_write};
 use lock::step::step;
 use memory::WordMemory;
@@ -24,24 +24,25 @@ const NOTHING: Touch = Touch {
 fn calls_out_of_turn(rt: HostRuntime) -> Result<(), Fail> {
     let plan = plan_a(rt.alloc())?;
     for uses in USES {
-        let before = [highest(uses, IDLE); 5];
+        let place = uses.0;
+        let before = [highest(uses, Record::IDLE); 5];
         let mut records = before;
         let mut table = [0u64; 40];
         let stepped = step(&plan, &mut WordMemory::new(&mut table), &mut records, 2);
-        let rests = uses.0 == 0 || uses.0 == 27 || uses.0 == 28;
+        let rests = matches!(place, 0 | 27 | 28);
         assert_eq!(rt; next_touch(&plan, &before, 2)? == NOTHING, rests);
         assert_eq!(rt; stepped == NOT_UNDER_WAY, rests);
         assert_eq!(rt; stepped.is_err(), rests);
         if rests {
             assert_eq!(rt; records, before);
         }
-        let asks = if uses.0 == 0 { ASKED } else { NOT_IDLE };
+        let asks = if place == 0 { ASKED } else { NOT_IDLE };
         records = before;
         assert_eq!(rt; ask_to_write(&plan, &mut records, 4), asks);
-        assert_eq!(rt; records == before, uses.0 != 0);
+        assert_eq!(rt; records == before, place != 0);
         records = before;
         assert_eq!(rt; ask_to_read(&plan, &mut records, 4), asks);
-        assert_eq!(rt; records == before, uses.0 != 0);
+        assert_eq!(rt; records == before, place != 0);
     }
     Ok(())
 }
@@ -49,7 +50,10 @@ fn calls_out_of_turn(rt: HostRuntime) -> Result<(), Fail> {
 #[test]
 fn unknown_ranks_and_the_order_of_refusals(rt: HostRuntime) -> Result<(), Fail> {
     let plan = plan_a(rt.alloc())?;
-    let spoiled = Record { place: 1, ..IDLE };
+    let spoiled = Record {
+        place: 1,
+        ..Record::IDLE
+    };
     let before = [spoiled; 6];
     let mut records = before;
     let mut table = [7u64; 40];
