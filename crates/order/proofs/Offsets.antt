@@ -1,13 +1,14 @@
 -- The offset of a fault lies in the order or at its end.
 use Rattle.std.proofs.Common.{◌≡◌, ℕ, zero, suc, ◌+◌, ◌*◌, ◌≤◌, Bool, true, false, cond, eqb, ltb, leb, List, [], length, get_or, Some, None, Ok, Err, Option, Result, refl, subst, arith}
 use Rattle.std.proofs.lemmas.Bool.{eqb-true, ltb-false, leb-false}
+use Rattle.std.specs.Option.{ok_or}
 use Rattle.refusal.specs.declared.Refusal.{Refusal}
+use Rattle.refusal.specs.declared.Refusal.TheVariants.{Misplaced}
 use Rattle.plan.specs.Trees.{Tree, planned}
 use Rattle.law.specs.declared.call.Call.{Call}
 use Rattle.order.specs.Bytes.{pair_at}
-use Rattle.order.specs.Calls.{Script, call_at, call_of, first_then, script, script_at, script_from}
-use Rattle.order.specs.Commands.{checked, run, size, then, letter_E, letter_G, letter_H, letter_K}
-use Rattle.order.specs.Commands.{letter_L, letter_R, letter_S, letter_W}
+use Rattle.order.specs.Calls.{Script, call_at, call_of, first_then, named_call, script, script_at, script_from}
+use Rattle.order.specs.Commands.{bad, checked, run, size, then, letter_E, letter_G, letter_H, letter_K}
 use Rattle.order.specs.Reading.{at_go, commands_checked, go_place, parents_due, ranks_due, ranks_place, reading, tree_in}
 use Rattle.order.specs.Reading.{Reading}
 use Rattle.order.specs.Whole.{Whole, read_whole, with_calls}
@@ -21,6 +22,10 @@ Near n (Err f) = f.offset ≤ n
 near_cond : {X : Type 0} (n : ℕ) (b : Bool) (r s : Result X Fault) → Near n r → Near n s → Near n (cond b r s)
 near_cond n true r s x y = x
 near_cond n false r s x y = y
+
+near_or : {X : Type 0} (n : ℕ) (o : Option X) (f : Fault) → f.offset ≤ n → Near n (ok_or o f)
+near_or n (Some x) f h = tt
+near_or n None f h = h
 
 near_then : {X : Type 0} (n : ℕ) (r : Result (Unit {0}) Fault) (s : Result X Fault)
     → Near n r → (r ≡ Ok tt → Near n s) → Near n (then r s)
@@ -120,10 +125,7 @@ short_ok bs false r e o = ltb-false _ _ e
 
 -- the calls
 near_call_of : (c p at n : ℕ) → at ≤ n → Near n (call_of c p at)
-near_call_of c p at n h =
-    near_cond n (eqb c letter_W) _ _ tt
-    (near_cond n (eqb c letter_R) _ _ tt
-    (near_cond n (eqb c letter_S) _ _ tt (near_cond n (eqb c letter_L) _ _ tt h)))
+near_call_of c p at n h = near_or n (named_call c p) (bad Misplaced at) h
 
 near_call : (bs : List ℕ) (at n : ℕ) → at ≤ n → Near n (call_at bs at)
 near_call bs at n h =
