@@ -7,4 +7,5 @@ pub mod RoundTrip
 pub mod Runs
 pub mod Scripts
 pub mod ReadParts
+pub mod Wholes
 pub mod Written

@@ -1,7 +1,7 @@
--- The calls of an order, one more of them, and where they end.
-use Rattle.std.proofs.Common.{◌≡◌, ℕ, zero, suc, ◌+◌, ◌<◌, ◌≤◌, List, [], ◌∷◌, ◌++◌, length, Some, None, Ok, Err, sym, ap, ◌∙◌, arith}
-use Rattle.std.proofs.lemmas.List.{append_assoc, append-nil}
-use Rattle.std.proofs.lemmas.Bool.{le-leb, lt-leb}
+-- The calls of an order from a place on, one more of them, and where they end.
+use Rattle.std.proofs.Common.{◌≡◌, ℕ, zero, suc, ◌+◌, ◌<◌, ◌≤◌, List, [], ◌∷◌, ◌++◌, length, Some, None, Ok, Err, refl, ◌∙◌, arith}
+use Rattle.std.proofs.lemmas.Bool.Decides.{nat_tests}
+use Rattle.std.proofs.lemmas.List.{append-nil, append_assoc}
 use Rattle.law.specs.declared.call.Call.{Call}
 use Rattle.order.specs.Calls.{Script, call_at, script, script_at, script_from}
 use Rattle.order.specs.declared.fault.Fault.{Fault}
@@ -10,54 +10,34 @@ use Rattle.order.specs.declared.fault.Fault.{Fault}
 abbrev pub prefixed : List Call → Script → Script
 prefixed cs s = script (cs ++ s.calls) s.fault
 
--- the calls up to a place are read, and so many more are looked for as the rest of the order can have
-pub record ReadUpTo (bs : List ℕ) (start : ℕ) (cs : List Call) (at : ℕ) : Type 0 where
-  pub more : ℕ
-  pub enough : length bs ≤ at + more
-  pub whole : prefixed cs (script_from bs more at) ≡ script_at bs start
+-- no more calls are found than the order has bytes from a place on
+enough : (bs : List ℕ) (n m at : ℕ) → length bs ≤ at + n → length bs ≤ at + m → script_from bs n at ≡ script_from bs m at
+enough bs zero zero at h k = refl
+enough bs zero (suc m) at h k = grind (arith, nat_tests)
+enough bs (suc n) zero at h k = grind (arith, nat_tests)
+enough bs (suc n) (suc m) at h k = grind (arith, nat_tests, enough bs n m (at + 3))
 
--- nothing is read yet
-pub none_read : (bs : List ℕ) (at : ℕ) (cs : List Call) → cs ≡ [] → ReadUpTo bs at cs at
-none_read bs at cs e = record {
-  more = length bs;
-  enough = omega arith;
-  whole = ap (λ xs. prefixed xs (script_at bs at)) e;
-}
+opened : (bs : List ℕ) (at : ℕ) → script_at bs at ≡ script_from bs (suc (length bs)) at
+opened bs at = enough bs (length bs) (suc (length bs)) at (omega arith) (omega arith)
 
-module _ (bs : List ℕ) (start at : ℕ) (cs : List Call) where
+module _ (bs : List ℕ) (start at : ℕ) (cs : List Call)
+    (before : prefixed cs (script_at bs at) ≡ script_at bs start) where
   -- the order ends between two calls
-  pub ends_here : ReadUpTo bs start cs at → length bs ≤ at → script cs None ≡ script_at bs start
-  ends_here r l = ended r.more r.whole
-    where
-      ended : (n : ℕ) → prefixed cs (script_from bs n at) ≡ script_at bs start → script cs None ≡ script_at bs start
-      ended zero e = ap (λ xs. script xs None) (sym (append-nil cs)) ∙ e
-      ended (suc n) e = ap (λ xs. script xs None) (sym (append-nil cs)) ∙ rw (le-leb (length bs) at l) at e
+  pub ends_here : length bs ≤ at → script cs None ≡ script_at bs start
+  ends_here h =
+      let end : script_at bs at ≡ script [] None = opened bs at ∙ grind (arith, nat_tests) in
+      rw append-nil at (rw end at before)
 
   -- a bad call ends them
-  pub bad_here : ReadUpTo bs start cs at → at < length bs → (f : Fault) → Err f ≡ call_at bs at
-      → script cs (Some f) ≡ script_at bs start
-  bad_here r l f b = ended r.more r.enough r.whole
-    where
-      ended : (n : ℕ) → length bs ≤ at + n → prefixed cs (script_from bs n at) ≡ script_at bs start
-          → script cs (Some f) ≡ script_at bs start
-      ended zero h e = absurd (omega arith)
-      ended (suc n) h e =
-          ap (λ xs. script xs (Some f)) (sym (append-nil cs)) ∙ rw (lt-leb (length bs) at l, sym b) at e
+  pub bad_here : (f : Fault) → at < length bs → Err f ≡ call_at bs at → script cs (Some f) ≡ script_at bs start
+  bad_here f h e =
+      let end : script_at bs at ≡ script [] (Some f) = opened bs at ∙ grind (arith, nat_tests) in
+      rw append-nil at (rw end at before)
 
   -- one call more
-  pub call_more : ReadUpTo bs start cs at → at < length bs → (c : Call) → Ok c ≡ call_at bs at
-      → (new : List Call) → new ≡ cs ++ c ∷ []
-      → ReadUpTo bs start new (at + 3)
-  call_more r l c b new push = next r.more r.enough r.whole
-    where
-      next : (n : ℕ) → length bs ≤ at + n → prefixed cs (script_from bs n at) ≡ script_at bs start
-          → ReadUpTo bs start new (at + 3)
-      next zero h e = absurd (omega arith)
-      next (suc n) h e = record {
-        more = n;
-        enough = omega arith;
-        whole =
-            ap (λ xs. prefixed xs (script_from bs n (at + 3))) push
-            ∙ ap (λ xs. script xs (script_from bs n (at + 3)).fault) (append_assoc cs (c ∷ []) (script_from bs n (at + 3)).calls)
-            ∙ rw (lt-leb (length bs) at l, sym b) at e;
-      }
+  pub call_more : (c : Call) (new : List Call) → at < length bs → Ok c ≡ call_at bs at → new ≡ cs ++ c ∷ []
+      → prefixed new (script_at bs (at + 3)) ≡ script_at bs start
+  call_more c new h e push =
+      let rest = script_at bs (at + 3) in
+      let one : script_at bs at ≡ script (c ∷ rest.calls) rest.fault = opened bs at ∙ grind (arith, nat_tests) in
+      rw (push, append_assoc) (rw one at before)
