@@ -80,9 +80,8 @@ pub fn read_plan(heap: Global, order: &[u8]) -> Result<PlanRead, Fault>
     let parents = read_operands(heap, &mut reader, 'E', shape.elements.saturating_sub(1))?;
     let rank_elements = read_operands(heap, &mut reader, 'K', shape.ranks)?;
     reader.check('G')?;
-    let plan = Plan::new(shape, parents, rank_elements).map_err(|refusal| Fault::new(
-        refusal, reader.at,
-    ))?;
+    let made = Plan::new(shape, parents, rank_elements);
+    let plan = made.map_err(|refusal| Fault::new(refusal, reader.at))?;
     Ok(PlanRead {
         plan,
         end: reader.at + 1,
