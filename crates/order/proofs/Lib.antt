@@ -1,4 +1,5 @@
 pub mod Bounds
+pub mod Chunks
 pub mod Decimals
 pub mod Offsets
 pub mod Overlays
@@ -6,4 +7,5 @@ pub mod RoundTrip
 pub mod Runs
 pub mod Scripts
 pub mod ReadParts
+pub mod Wholes
 pub mod Written

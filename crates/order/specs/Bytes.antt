@@ -1,5 +1,10 @@
 -- Numbers as bytes, most significant first.
-use Rattle.std.specs.Prelude.{ℕ, ◌+◌, ◌*◌, List, ◌++◌, length, take, drop, slice_index}
+use Rattle.std.specs.Prelude.{ℕ, zero, suc, ◌+◌, ◌*◌, List, [], ◌∷◌, ◌++◌, length, take, drop, slice_index}
+
+-- so many bytes from a place on; past the end there are zeros
+abbrev pub bytes_from : List ℕ → ℕ → ℕ → List ℕ
+bytes_from bs at zero = []
+bytes_from bs at (suc n) = slice_index bs at ∷ bytes_from bs (at + 1) n
 
 -- the number in two bytes from a place on; past the end there are zeros
 abbrev pub pair_at : List ℕ → ℕ → ℕ

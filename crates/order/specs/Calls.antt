@@ -1,5 +1,6 @@
 -- The calls behind G: good ones up to the end of the order, or up to the first that is bad.
 use Rattle.std.specs.Prelude.{ℕ, zero, suc, ◌+◌, cond, List, [], ◌∷◌, length, Some, None, Ok, Err, Option, Result, ◌==◌, nat_le, nat_lt, slice_index}
+use Rattle.std.specs.Option.{ok_or}
 use Rattle.refusal.specs.declared.Refusal.TheVariants.{Cut, Misplaced}
 use Rattle.law.specs.declared.call.Call.{Call}
 use Rattle.law.specs.declared.call.Call.TheVariants.{AskWrite, AskRead, Step, Leave}
@@ -7,14 +8,17 @@ use Rattle.order.specs.Bytes.{pair_at}
 use Rattle.order.specs.Commands.{bad, letter_L, letter_R, letter_S, letter_W, size}
 use Rattle.order.specs.declared.fault.Fault.{Fault}
 
+-- the call that a letter names; other letters name none
+abbrev pub named_call : ℕ → ℕ → Option Call
+named_call c p =
+    cond (c == letter_W) (Some (AskWrite p))
+    (cond (c == letter_R) (Some (AskRead p))
+    (cond (c == letter_S) (Some (Step p))
+    (cond (c == letter_L) (Some (Leave p)) None)))
+
 -- a letter and a rank as a call; other letters are not due behind G
 abbrev pub call_of : ℕ → ℕ → ℕ → Result Call Fault
-call_of c p at =
-    cond (c == letter_W) (Ok (AskWrite p))
-    (cond (c == letter_R) (Ok (AskRead p))
-    (cond (c == letter_S) (Ok (Step p))
-    (cond (c == letter_L) (Ok (Leave p))
-    (Err (bad Misplaced at)))))
+call_of c p at = ok_or (named_call c p) (bad Misplaced at)
 
 -- the call at a place of the order: cut, where the order ends in it; else misplaced, where it is no call
 abbrev pub call_at : List ℕ → ℕ → Result Call Fault

@@ -41,6 +41,11 @@ takes_pair c =
 abbrev pub size : ℕ → ℕ
 size c = cond (c == letter_H) 20 (cond (takes_pair c) 3 1)
 
+-- the letter of the command at a place, unless the order ends before the command or in it
+abbrev pub letter_at : List ℕ → ℕ → Result ℕ Fault
+letter_at bs at =
+    cond (nat_lt (length bs) (at + size (slice_index bs at))) (Err (bad Cut at)) (Ok (slice_index bs at))
+
 -- whether the command that stands at a place is the one that is due there:
 -- cut, where the order ends before the command or in it; else misplaced, where it has another letter
 abbrev pub checked : List ℕ → ℕ → ℕ → Result (Unit {0}) Fault

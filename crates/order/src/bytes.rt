@@ -1,32 +1,19 @@
-//! Numbers in an order, most significant byte first; past the end of the order there are zeros.
+//! Bytes of an order; past its end there are zeros.
 
-ghost use Rattle.std.specs.Prelude.{◌≡◌, ◌≤◌, slice_index};
-ghost use Rattle.order.specs.Bytes.{pair_at, quad_at};
+ghost use Rattle.std.specs.Prelude.{◌≡◌, slice_index};
+ghost use Rattle.order.specs.Bytes.{bytes_from};
 
 // One byte.
-pub(crate) fn byte_at(bytes: &[u8], at: usize) -> u8
-    ensures { result ≡ slice_index bytes.now at }
+pub(crate) fn byte_at(order: &[u8], at: usize) -> u8
+    ensures { result ≡ slice_index order.now at }
 {
-    if at < bytes.len() { bytes[at] } else { 0 }
+    order.get(at).copied().unwrap_or(0)
 }
 
-// A number of two bytes.
-pub(crate) fn pair(bytes: &[u8], at: usize) -> u16
-    requires { at ≤ 1000000 }
-    ensures { result ≡ pair_at bytes.now at }
+// N bytes, from a place on.
+pub(crate) fn bytes_at<const N: usize>(order: &[u8], at: usize) -> [u8; N]
+    ensures { result ≡ bytes_from order.now at N }
 {
-    u16::from_be_bytes([byte_at(bytes, at), byte_at(bytes, at + 1)])
-}
-
-// A number of four bytes.
-pub(crate) fn quad(bytes: &[u8], at: usize) -> u32
-    requires { at ≤ 1000000 }
-    ensures { result ≡ quad_at bytes.now at }
-{
-    u32::from_be_bytes([
-        byte_at(bytes, at),
-        byte_at(bytes, at + 1),
-        byte_at(bytes, at + 2),
-        byte_at(bytes, at + 3),
-    ])
+    let rest = order.get(at..).unwrap_or(&[]);
+    std::array::from_fn(|k| byte_at(rest, k))
 }

@@ -1,15 +1,17 @@
-//! One command of an order: its letter as a char, its length, and whether it is the one that is due.
+//! A reader at a command of an order: the letter as a char, the command's length and operand, and whether it is due.
 
-ghost use Rattle.std.specs.Prelude.{◌≡◌, ◌+◌, ◌≤◌, length, nat_lt, slice_index};
-ghost use Rattle.order.specs.Commands.{checked, size};
+ghost use Rattle.std.specs.Prelude.{◌≡◌, ◌+◌, ◌<◌, length, IfOk};
+ghost use Rattle.order.specs.Bytes.{pair_at};
+ghost use Rattle.order.specs.Commands.{checked, letter_at, size};
 
-use crate::bytes::byte_at;
+use crate::bytes::{byte_at, bytes_at};
 use crate::fault::Fault;
 use refusal::Refusal;
 
-// How many bytes a command has, its letter among them; an unknown letter is not looked behind.
+// How many bytes a command has by the order's format, its letter among them; an unknown letter is not looked behind.
 fn length_of(letter: char) -> usize
-    ensures { result ≡ size letter }
+    ensures value { result ≡ size letter }
+    ensures some { 0 < result }
 {
     match letter {
         'H' => 20,
@@ -18,27 +20,48 @@ fn length_of(letter: char) -> usize
     }
 }
 
-// The order ends before the command at a place, or in it.
-pub(crate) fn is_cut(order: &[u8], at: usize) -> bool
-    requires { at ≤ 1000000 }
-    ensures { result ≡ nat_lt (length order.now) (at + size (slice_index order.now at)) }
-{
-    order.len() < at + length_of(byte_at(order, at) as char)
+/// An order, and the offset of the command that is read next.
+#[derive(Drop)]
+pub(crate) struct Reader<'a> {
+    pub(crate) order: &'a [u8],
+    pub(crate) at: usize,
+}
+
+impl Reader<'_> {
+    // The command's letter, unless the order ends before the command or in it.
+    pub(crate) fn letter(&self) -> Result<char, Fault>
+        ensures { result ≡ letter_at self.now.order.now self.now.at }
+    {
+        let letter = byte_at(self.order, self.at) as char;
+        if self.order.len().saturating_sub(self.at) < length_of(letter) {
+            return Err(Fault::new(Refusal::Cut, self.at));
+        }
+        Ok(letter)
+    }
+
+    // The two bytes behind the letter as a number.
+    pub(crate) fn operand(&self) -> u16
+        ensures { result ≡ pair_at self.now.order.now (self.now.at + 1) }
+    {
+        let [_, high, low] = bytes_at::<3>(self.order, self.at);
+        u16::from_be_bytes([high, low])
+    }
+
+    // Whether the command is the one that is due: a cut command is refused first, then a misplaced one.
+    pub(crate) fn check(&self, due: char) -> Result<(), Fault>
+        ensures value { result ≡ checked self.now.order.now self.now.at due }
+        ensures within { IfOk result (λ _. self.now.at < length self.now.order.now) }
+    {
+        if self.letter()? != due {
+            return Err(Fault::new(Refusal::Misplaced, self.at));
+        }
+        Ok(())
+    }
 }
 
 /// Whether the command at a place is the one that is due: a cut command is refused first, then a misplaced one.
 pub fn check_command(order: &[u8], at: usize, due: char) -> Result<(), Fault>
     ensures { result ≡ checked order.now at due }
 {
-    if at >= order.len() {
-        return Err(Fault::new(Refusal::Cut, at));
-    }
-    let letter = byte_at(order, at) as char;
-    if order.len() - at < length_of(letter) {
-        return Err(Fault::new(Refusal::Cut, at));
-    }
-    if letter != due {
-        return Err(Fault::new(Refusal::Misplaced, at));
-    }
-    Ok(())
+    Reader { order, at }.check(due)
 }

@@ -1,12 +1,12 @@
 //! The reader of the plan's part of an order, H to G.
 
-ghost use Rattle.std.specs.Prelude.{◌≡◌, ◌≤◌, true, length, is_some, IfOk, Ok, Err, MatchResult};
+ghost use Rattle.std.specs.Prelude.{◌≡◌, ◌+◌, ◌*◌, ◌≤◌, true, length, is_some, IfOk, Ok, Err, MatchResult};
 ghost use Rattle.refusal.specs.Numbers.{number_of};
 ghost use Rattle.order.specs.Commands.{run};
 ghost use Rattle.order.specs.Reading.{Answers, operands, reading, shape_in};
 
-use crate::bytes::{byte_at, pair, quad};
-use crate::command::check_command;
+use crate::bytes::{byte_at, bytes_at};
+use crate::command::{Reader, check_command};
 use crate::fault::Fault;
 use plan::plan::Plan;
 use plan::shape::Shape;
@@ -23,44 +23,44 @@ pub struct PlanRead {
     pub end: usize,
 }
 
-// The numbers behind H.
+// The numbers behind H, at the offsets that the format gives them.
 fn read_shape(order: &[u8]) -> Shape
     ensures { result ≡ shape_in order.now }
 {
     Shape {
-        ranks: pair(order, 1),
-        elements: pair(order, 3),
+        ranks: u16::from_be_bytes(bytes_at(order, 1)),
+        elements: u16::from_be_bytes(bytes_at(order, 3)),
         levels: byte_at(order, 5),
-        spacing: pair(order, 6),
-        reader_threshold: quad(order, 8),
-        writer_threshold: pair(order, 12),
-        level2_threshold: pair(order, 14),
-        level3_threshold: pair(order, 16),
-        level4_threshold: pair(order, 18),
+        spacing: u16::from_be_bytes(bytes_at(order, 6)),
+        reader_threshold: u32::from_be_bytes(bytes_at(order, 8)),
+        writer_threshold: u16::from_be_bytes(bytes_at(order, 12)),
+        level2_threshold: u16::from_be_bytes(bytes_at(order, 14)),
+        level3_threshold: u16::from_be_bytes(bytes_at(order, 16)),
+        level4_threshold: u16::from_be_bytes(bytes_at(order, 18)),
     }
 }
 
-// The operands of `count` commands of one letter, from a place on, or the first fault.
+// The operands of `count` commands of one letter, behind which the reader then stands; or the first fault.
 fn read_operands(
     heap: Global,
-    order: &[u8],
-    at: usize,
+    reader: &mut Reader,
     letter: char,
     count: u16,
 ) -> Result<Vec<u16>, Fault>
-    requires { at ≤ 500000 }
-    ensures { MatchResult result
-        (λ v. (run order.now letter at count ≡ Ok tt)
-        × (v.items ≡ operands order.now at count))
-        (λ f. is_some (number_of f.refusal) ≡ true → run order.now letter at count ≡ Err f) }
+    ensures value { MatchResult result
+        (λ v. (run reader.old.order.now letter reader.old.at count ≡ Ok tt)
+        × (v.items ≡ operands reader.old.order.now reader.old.at count)
+        × (reader.new.at ≡ reader.old.at + 3 * count))
+        (λ f. is_some (number_of f.refusal) ≡ true
+        → run reader.old.order.now letter reader.old.at count ≡ Err f) }
+    ensures order { reader.new.order.now ≡ reader.old.order.now }
 {
     let mut list = Vec::new(heap);
-    for j in 0..count {
-        let place = at + 3 * j as usize;
-        check_command(order, place, letter)?;
-        if list.push(pair(order, place + 1)).is_err() {
-            return Err(Fault::new(Refusal::OutOfMemory, place));
-        }
+    for _ in 0..count {
+        reader.check(letter)?;
+        list.push(reader.operand())
+            .map_err(|_| Fault::new(Refusal::OutOfMemory, reader.at))?;
+        reader.at += 3;
     }
     Ok(list)
 }
@@ -69,21 +69,21 @@ fn read_operands(
 /// What stands behind G is not looked at.
 pub fn read_plan(heap: Global, order: &[u8]) -> Result<PlanRead, Fault>
     ensures value { Answers result (reading order.now) }
-    ensures short { IfOk result (λ x. (length order.now ≤ 65535) × (x.end ≤ 500000)) }
+    ensures short { IfOk result (λ x. (length order.now ≤ 65535) × (x.end ≤ length order.now)) }
 {
     if order.len() > LONGEST_ORDER {
         return Err(Fault::new(Refusal::OrderTooLong, LONGEST_ORDER));
     }
     check_command(order, 0, 'H')?;
     let shape = read_shape(order);
-    let parents_due = shape.elements.saturating_sub(1);
-    let parents = read_operands(heap, order, 20, 'E', parents_due)?;
-    let ranks_place = 20 + 3 * parents_due as usize;
-    let rank_elements = read_operands(heap, order, ranks_place, 'K', shape.ranks)?;
-    let go = ranks_place + 3 * shape.ranks as usize;
-    check_command(order, go, 'G')?;
-    match Plan::new(shape, parents, rank_elements) {
-        Ok(plan) => Ok(PlanRead { plan, end: go + 1 }),
-        Err(refusal) => Err(Fault::new(refusal, go)),
-    }
+    let mut reader = Reader { order, at: 20 };
+    let parents = read_operands(heap, &mut reader, 'E', shape.elements.saturating_sub(1))?;
+    let rank_elements = read_operands(heap, &mut reader, 'K', shape.ranks)?;
+    reader.check('G')?;
+    let made = Plan::new(shape, parents, rank_elements);
+    let plan = made.map_err(|refusal| Fault::new(refusal, reader.at))?;
+    Ok(PlanRead {
+        plan,
+        end: reader.at + 1,
+    })
 }

@@ -5,13 +5,14 @@ ghost use Rattle.order.specs.Whole.{AnswersWhole, read_whole};
 
 use crate::calls::{CallsRead, read_calls};
 use crate::fault::Fault;
-use crate::read::read_plan;
+use crate::read::{PlanRead, read_plan};
 use law::call::Call;
 use plan::plan::Plan;
 use refusal::Refusal;
 use std::alloc::Global;
 
 /// The plan of an order, its calls up to the end or up to the first bad one, and the fault of that one.
+// No Result: the calls before a bad one are run.
 #[derive(Drop)]
 pub struct OrderRead {
     pub plan: Plan,
@@ -23,13 +24,10 @@ pub struct OrderRead {
 pub fn read_order(heap: Global, order: &[u8]) -> Result<OrderRead, Fault>
     ensures { AnswersWhole result (read_whole order.now) }
 {
-    let read = read_plan(heap, order)?;
-    match read_calls(heap, order, read.end) {
-        Ok(CallsRead { calls, fault }) => Ok(OrderRead {
-            plan: read.plan,
-            calls,
-            fault,
-        }),
-        Err(_) => Err(Fault::new(Refusal::OutOfMemory, read.end)),
-    }
+    let PlanRead { plan, end } = read_plan(heap, order)?;
+    let CallsRead { calls, fault } = read_calls(heap, order, end).map_err(|_| Fault::new(
+        Refusal::OutOfMemory,
+        end,
+    ))?;
+    Ok(OrderRead { plan, calls, fault })
 }

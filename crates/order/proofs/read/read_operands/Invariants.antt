@@ -1,8 +1,7 @@
-use Rattle.std.proofs.Common.{◌≡◌, Ok, vec_items}
-use Rattle.order.specs.Commands.{run}
-use Rattle.order.specs.Reading.{operands}
+use Rattle.std.proofs.Common.{vec_items}
+use Rattle.order.proofs.Runs.{ReadRun}
 use Rattle.order.proofs.read.read_operands.Given as goal
 
-abbrev pub invariant-loop-j : goal.invariant-loop-j
-invariant-loop-j l =
-    (run l.order l.letter l.at l.j ≡ Ok tt) × (vec_items l.list ≡ operands l.order l.at l.j)
+abbrev pub invariant-loop : goal.invariant-loop
+invariant-loop l =
+    ReadRun l.initial.reader.order.now l.letter l.initial.reader.at l.counter (vec_items l.list) l.reader.order.now l.reader.at

@@ -1,0 +1,10 @@
+use Rattle.std.proofs.Common.{refl, ap, ◌∙◌, rules}
+use Rattle.order.proofs.Chunks.{bytes_made, rest_is}
+use Rattle.order.proofs.bytes.bytes_at.Goals as goal
+
+pub returns : goal.returns
+returns g c =
+    let rest = c.unwrap_or-rest.result.now in
+    bytes_made _ _ rest (λ k y q h. search rules) c.from_fn.result c.args.order.now c.args.at g.row.N
+    (ap (λ x. x.now) c.unwrap_or-rest.ensures ∙ rest_is c.args.order.now c.args.at c.get.result _ refl c.get.ensures.lookup)
+    c.from_fn.ensures.items
