@@ -1,5 +1,4 @@
 pub mod Bounds
-pub mod Decimals
 pub mod Offsets
 pub mod Overlays
 pub mod RoundTrip
