@@ -11,7 +11,8 @@ use law::call::Call;
 use places::answer::Answer;
 use refusal::Refusal;
 
-// A line; none has more than 24 bytes.
+// A line; none has more than 24 bytes. Its parts are pushed, since `write!` does not promise to succeed where there is
+// room.
 type Line = ArrayString<24>;
 
 // One more number, in decimal digits.
@@ -42,7 +43,7 @@ fn text_of(answer: Answer) -> &'static str
 fn number_of(refusal: Refusal) -> u16
     ensures { result ≡ shown_number refusal }
 {
-    refusal.number().unwrap_or(0) as u16
+    refusal.number().unwrap_or(0).into()
 }
 
 // The end of a line that tells a refusal.
