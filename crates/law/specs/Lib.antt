@@ -1,5 +1,6 @@
 pub mod Beyond
 pub mod Calls
+pub mod CallParts
 pub mod Presence
 pub mod Exclusion
 pub mod History

@@ -1,6 +1,5 @@
 pub mod Bounds
 pub mod Chunks
-pub mod Decimals
 pub mod Offsets
 pub mod Overlays
 pub mod RoundTrip

@@ -7,23 +7,9 @@ use Rattle.refusal.specs.declared.Refusal.TheVariants.{BufferTooSmall}
 use Rattle.places.specs.declared.answer.Answer.{Answer}
 use Rattle.places.specs.declared.answer.Answer.TheVariants.{Asked, Leaving, Entered, Free, Waiting, Moved}
 use Rattle.law.specs.declared.call.Call.{Call}
-use Rattle.law.specs.declared.call.Call.TheVariants.{AskWrite, AskRead, Step, Leave}
+use Rattle.law.specs.CallParts.{letter, rank}
 use Rattle.order.specs.Bytes.{overlaid}
-use Rattle.order.specs.Commands.{letter_L, letter_R, letter_S, letter_W}
 use Rattle.order.specs.declared.fault.Fault.{Fault}
-
--- the letter and the rank of a call
-abbrev pub letter : Call → ℕ
-letter (AskWrite p) = letter_W
-letter (AskRead p) = letter_R
-letter (Step p) = letter_S
-letter (Leave p) = letter_L
-
-abbrev pub rank : Call → ℕ
-rank (AskWrite p) = p
-rank (AskRead p) = p
-rank (Step p) = p
-rank (Leave p) = p
 
 abbrev pub answer_word : Answer → List ℕ
 answer_word Asked = codes " asked\n"

@@ -1,69 +1,41 @@
-//! The lines of a run, each made in a caller's buffer of at least 24 bytes and ended by a line feed.
+//! The lines of a run: each is made as text and laid into a caller's buffer of at least 24 bytes.
 
-ghost use Rattle.std.specs.Prelude.{◌≡◌, ◌+◌, ◌^◌, ◌<◌, ◌≤◌, T, ◌++◌, length, take, IfOk, decimal};
-ghost use Rattle.order.specs.Bytes.{pasted};
-ghost use Rattle.order.specs.Lines.{answer_word, bad_line, letter, line_length, line_written, rank, refusal_words, reply_line, reply_words, roomy_bad, roomy_line, shown_number};
+ghost use Rattle.std.specs.Prelude.{◌≡◌, ◌+◌, ◌≤◌, ◌++◌, length, take, IfOk, decimal};
+ghost use Rattle.arrayvec.specs.ArrayString.{array_string_len};
+ghost use Rattle.order.specs.Lines.{answer_word, bad_line, line_length, line_written, refusal_words, reply_line, roomy_bad, roomy_line, shown_number};
 
 use crate::fault::Fault;
-use crate::write::put;
+use arrayvec::ArrayString;
+use itoa::Buffer;
 use law::call::Call;
 use places::answer::Answer;
 use refusal::Refusal;
 
-// Writes a number in decimal digits from a place on, and answers the place behind it.
-fn put_decimal(out: &mut [u8], at: usize, n: u16) -> usize
-    requires { at + 5 ≤ length out.old }
-    ensures value { result ≡ at + length (decimal n) }
-    ensures bound { result ≤ at + 5 }
-    ensures buffer { out.new ≡ pasted out.old at (decimal n) }
-{
-    let digit = b'0' + (n % 10) as u8;
-    if n < 10 {
-        put(out, at, &[digit]);
-        at + 1
-    } else {
-        let behind = put_decimal(out, at, n / 10);
-        put(out, behind, &[digit]);
-        behind + 1
-    }
-}
+// A line; none has more than 24 bytes. Its parts are pushed, since `write!` does not promise to succeed where there is
+// room.
+type Line = ArrayString<24>;
 
-// The letter of a call.
-fn letter_of(call: Call) -> u8
-    ensures { result ≡ letter call }
+// One more number, in decimal digits.
+fn push_number(line: &mut Line, n: u16)
+    requires { array_string_len line.old + 5 ≤ 24 }
+    ensures bytes { line.new.bytes ≡ line.old.bytes ++ decimal n }
+    ensures short { array_string_len line.new ≤ array_string_len line.old + 5 }
 {
-    match call {
-        Call::AskWrite { rank: _ } => b'W',
-        Call::AskRead { rank: _ } => b'R',
-        Call::Step { rank: _ } => b'S',
-        Call::Leave { rank: _ } => b'L',
-    }
-}
-
-// The rank of a call.
-fn rank_of(call: Call) -> u16
-    ensures { result ≡ rank call }
-{
-    match call {
-        Call::AskWrite { rank } => rank,
-        Call::AskRead { rank } => rank,
-        Call::Step { rank } => rank,
-        Call::Leave { rank } => rank,
-    }
+    line.push_str(Buffer::new().format(n));
 }
 
 // The end of a line that tells an answer.
-fn text_of(answer: Answer) -> &'static [u8]
+fn text_of(answer: Answer) -> &'static str
     ensures value { result.now ≡ answer_word answer }
     ensures short { length result.now ≤ 9 }
 {
     match answer {
-        Answer::Asked => b" asked\n",
-        Answer::Leaving => b" leaving\n",
-        Answer::Entered => b" entered\n",
-        Answer::Free => b" free\n",
-        Answer::Waiting => b" waiting\n",
-        Answer::Moved => b" moved\n",
+        Answer::Asked => " asked\n",
+        Answer::Leaving => " leaving\n",
+        Answer::Entered => " entered\n",
+        Answer::Free => " free\n",
+        Answer::Waiting => " waiting\n",
+        Answer::Moved => " moved\n",
     }
 }
 
@@ -71,37 +43,60 @@ fn text_of(answer: Answer) -> &'static [u8]
 fn number_of(refusal: Refusal) -> u16
     ensures { result ≡ shown_number refusal }
 {
-    refusal.number().unwrap_or(0) as u16
+    refusal.number().unwrap_or(0).into()
 }
 
-// Writes the end of a line that tells a refusal, and answers the place behind it.
-fn put_refusal(out: &mut [u8], at: usize, refusal: Refusal) -> usize
-    requires { at + 15 ≤ length out.old }
-    ensures value { result ≡ at + length (refusal_words refusal) }
-    ensures bound { result ≤ at + 15 }
-    ensures buffer { out.new ≡ pasted out.old at (refusal_words refusal) }
+// The end of a line that tells a refusal.
+fn push_refusal(line: &mut Line, refusal: Refusal)
+    requires { array_string_len line.old + 15 ≤ 24 }
+    ensures { line.new.bytes ≡ line.old.bytes ++ refusal_words refusal }
 {
-    put(out, at, b" refused ");
-    let behind = put_decimal(out, at + 9, number_of(refusal));
-    put(out, behind, b"\n");
-    behind + 1
+    line.push_str(" refused ");
+    push_number(line, number_of(refusal));
+    line.push('\n');
 }
 
-// Writes the end of a line, and answers the place behind it.
-fn put_reply(out: &mut [u8], at: usize, reply: Result<Answer, Refusal>) -> usize
-    requires { at + 15 ≤ length out.old }
-    ensures value { result ≡ at + length (reply_words reply) }
-    ensures bound { result ≤ at + 15 }
-    ensures buffer { out.new ≡ pasted out.old at (reply_words reply) }
+// A call and what it answered.
+fn reply_text(call: Call, reply: Result<Answer, Refusal>) -> Line
+    ensures { result.bytes ≡ reply_line call reply }
 {
+    let mut line = Line::new();
+    line.push(call.letter());
+    line.push(' ');
+    push_number(&mut line, call.rank());
     match reply {
-        Ok(answer) => {
-            let text = text_of(answer);
-            put(out, at, text);
-            at + text.len()
-        }
-        Err(refusal) => put_refusal(out, at, refusal),
+        Ok(answer) => line.push_str(text_of(answer)),
+        Err(refusal) => push_refusal(&mut line, refusal),
     }
+    line
+}
+
+// What is wrong with an order, and where.
+fn bad_text(refusal: Refusal, offset: u16) -> Line
+    ensures { result.bytes ≡ bad_line (record { refusal = refusal; offset = offset }) }
+{
+    let mut line = Line::new();
+    line.push_str("bad ");
+    push_number(&mut line, number_of(refusal));
+    line.push_str(" at ");
+    push_number(&mut line, offset);
+    line.push('\n');
+    line
+}
+
+// Lays a line over the front of a buffer, and answers its length.
+fn lay(line: &Line, out: &mut [u8]) -> Result<usize, Refusal>
+    ensures value { result ≡ line_length (roomy_line out.old) line.now.bytes }
+    ensures buffer { out.new ≡ line_written (roomy_line out.old) line.now.bytes out.old }
+    ensures short { IfOk result (λ n. n ≤ length out.new) }
+    ensures line { IfOk result (λ n. take n out.new ≡ line.now.bytes) }
+{
+    if out.len() < 24 {
+        return Err(Refusal::BufferTooSmall);
+    }
+    let text = line.as_str().as_bytes();
+    out[..text.len()].copy_from_slice(text);
+    Ok(text.len())
 }
 
 /// The line of a call and what it answered: letter, rank and answer, or `refused` and the number.
@@ -117,21 +112,7 @@ pub fn write_reply(
     ensures short { IfOk result (λ n. n ≤ length out.new) }
     ensures line { IfOk result (λ n. take n out.new ≡ reply_line call reply) }
 {
-    if out.len() < 24 {
-        return Err(Refusal::BufferTooSmall);
-    }
-    put(out, 0, &[letter_of(call), b' ']);
-    let at = put_decimal(out, 2, rank_of(call));
-    let end = put_reply(out, at, reply);
-    Ok(end)
-}
-
-// A buffer for a line, and an offset that an order can have.
-fn has_room_for_bad(fault: Fault, out: &[u8]) -> bool
-    ensures value { result ≡ roomy_bad fault out.now }
-    ensures bounds { T result → (24 ≤ length out.now) × (fault.offset ≤ 65535) }
-{
-    24 <= out.len() && fault.offset <= 65535
+    lay(&reply_text(call, reply), out)
 }
 
 /// The line of a bad order. Answers the line's length; a buffer of fewer than 24 bytes, and an offset that no
@@ -143,13 +124,6 @@ pub fn write_bad(fault: Fault, out: &mut [u8]) -> Result<usize, Refusal>
     ensures short { IfOk result (λ n. n ≤ length out.new) }
     ensures line { IfOk result (λ n. take n out.new ≡ bad_line fault) }
 {
-    if !has_room_for_bad(fault, out) {
-        return Err(Refusal::BufferTooSmall);
-    }
-    put(out, 0, b"bad ");
-    let at = put_decimal(out, 4, number_of(fault.refusal));
-    put(out, at, b" at ");
-    let behind = put_decimal(out, at + 4, fault.offset as u16);
-    put(out, behind, b"\n");
-    Ok(behind + 1)
+    let offset = u16::try_from(fault.offset).map_err(|_| Refusal::BufferTooSmall)?;
+    lay(&bad_text(fault.refusal, offset), out)
 }

@@ -10,47 +10,21 @@ use plan::plan::Plan;
 use plan::shape::Shape;
 use refusal::Refusal;
 
-// Lays bytes over a buffer from a place on.
-pub(crate) fn put(out: &mut [u8], at: usize, bytes: &[u8])
-    requires { at + length bytes.now ≤ length out.old }
-    ensures { out.new ≡ pasted out.old at bytes.now }
-{
-    out[at..at + bytes.len()].copy_from_slice(bytes);
-}
-
 // H and its operands.
 fn head(shape: Shape) -> [u8; 20]
     ensures { result ≡ head_bytes shape }
 {
-    let p = shape.ranks.to_be_bytes();
-    let e = shape.elements.to_be_bytes();
-    let c = shape.spacing.to_be_bytes();
-    let r = shape.reader_threshold.to_be_bytes();
-    let w = shape.writer_threshold.to_be_bytes();
-    let l2 = shape.level2_threshold.to_be_bytes();
-    let l3 = shape.level3_threshold.to_be_bytes();
-    let l4 = shape.level4_threshold.to_be_bytes();
+    let [p1, p0] = shape.ranks.to_be_bytes();
+    let [e1, e0] = shape.elements.to_be_bytes();
+    let [c1, c0] = shape.spacing.to_be_bytes();
+    let [r3, r2, r1, r0] = shape.reader_threshold.to_be_bytes();
+    let [w1, w0] = shape.writer_threshold.to_be_bytes();
+    let [s1, s0] = shape.level2_threshold.to_be_bytes();
+    let [t1, t0] = shape.level3_threshold.to_be_bytes();
+    let [u1, u0] = shape.level4_threshold.to_be_bytes();
+    let levels = shape.levels;
     [
-        b'H',
-        p[0],
-        p[1],
-        e[0],
-        e[1],
-        shape.levels,
-        c[0],
-        c[1],
-        r[0],
-        r[1],
-        r[2],
-        r[3],
-        w[0],
-        w[1],
-        l2[0],
-        l2[1],
-        l3[0],
-        l3[1],
-        l4[0],
-        l4[1],
+        b'H', p1, p0, e1, e0, levels, c1, c0, r3, r2, r1, r0, w1, w0, s1, s0, t1, t0, u1, u0,
     ]
 }
 
@@ -58,18 +32,41 @@ fn head(shape: Shape) -> [u8; 20]
 fn pair_command(letter: u8, operand: u16) -> [u8; 3]
     ensures { result ≡ command letter operand }
 {
-    let n = operand.to_be_bytes();
-    [letter, n[0], n[1]]
+    let [high, low] = operand.to_be_bytes();
+    [letter, high, low]
 }
 
-// One command with the letter for each operand, from a place on.
-fn put_commands(out: &mut [u8], at: usize, letter: u8, operands: &[u16])
-    requires { at + 3 * length operands.now ≤ length out.old }
-    ensures { out.new ≡
-        pasted out.old at (flat_map (command letter) operands.now) }
-{
-    for (j, operand) in operands.iter().enumerate() {
-        put(out, at + 3 * j, &pair_command(letter, *operand));
+// A buffer, and where what is written of it ends.
+#[derive(Drop)]
+struct Writer<'a> {
+    out: &'a mut [u8],
+    end: usize,
+}
+
+impl Writer<'_> {
+    // Lays bytes behind what is written.
+    fn put(&mut self, bytes: &[u8])
+        requires { self.old.end + length bytes.now ≤ length self.old.out.now }
+        ensures bytes { self.new.out.now ≡ pasted self.old.out.now self.old.end bytes.now }
+        ensures end { self.new.end ≡ self.old.end + length bytes.now }
+        ensures kept { self.new.out.ghost_name ≡ self.old.out.ghost_name }
+    {
+        let end = self.end + bytes.len();
+        self.out[self.end..end].copy_from_slice(bytes);
+        self.end = end;
+    }
+
+    // One command with the letter for each operand.
+    fn put_commands(&mut self, letter: u8, operands: &[u16])
+        requires { self.old.end + 3 * length operands.now ≤ length self.old.out.now }
+        ensures bytes { self.new.out.now
+            ≡ pasted self.old.out.now self.old.end (flat_map (command letter) operands.now) }
+        ensures end { self.new.end ≡ self.old.end + 3 * length operands.now }
+        ensures kept { self.new.out.ghost_name ≡ self.old.out.ghost_name }
+    {
+        for operand in operands {
+            self.put(&pair_command(letter, *operand));
+        }
     }
 }
 
@@ -83,14 +80,14 @@ pub fn write_plan(plan: &Plan, out: &mut [u8]) -> Result<usize, Refusal>
 {
     let parents = plan.parents();
     let ranks = plan.rank_elements();
-    let ranks_place = 20 + 3 * parents.len();
-    let go = ranks_place + 3 * ranks.len();
-    if out.len() <= go {
+    let needed = 20 + 3 * parents.len() + 3 * ranks.len() + 1;
+    if out.len() < needed {
         return Err(Refusal::BufferTooSmall);
     }
-    put(out, 0, &head(plan.shape()));
-    put_commands(out, 20, b'E', parents);
-    put_commands(out, ranks_place, b'K', ranks);
-    put(out, go, b"G");
-    Ok(go + 1)
+    let mut writer = Writer { out, end: 0 };
+    writer.put(&head(plan.shape()));
+    writer.put_commands(b'E', parents);
+    writer.put_commands(b'K', ranks);
+    writer.put(b"G");
+    Ok(writer.end)
 }

@@ -1,4 +1,3 @@
-pub mod Extended
 pub mod Replies
 pub mod Roomy
 pub mod Told

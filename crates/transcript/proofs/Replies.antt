@@ -1,6 +1,6 @@
 -- One line more, the last of them, and answers with others behind them.
-use Rattle.std.proofs.Common.{◌≡◌, ℕ, ◌+◌, ◌<◌, ◌≤◌, List, [], ◌∷◌, ◌++◌, length, get_or, drop, Result, sym, refl, ap, ◌∙◌}
-use Rattle.std.proofs.lemmas.List.{append_assoc, append-nil, at_drop_all, at_drop_more}
+use Rattle.std.proofs.Common.{◌≡◌, ◌⊎◌, ℕ, List, [], ◌∷◌, ◌++◌, Result, refl, ap, arith}
+use Rattle.std.proofs.lemmas.List.{append_assoc, append-nil}
 use Rattle.refusal.specs.declared.Refusal.{Refusal}
 use Rattle.plan.specs.Trees.{Tree}
 use Rattle.places.specs.declared.answer.Answer.{Answer}
@@ -12,27 +12,22 @@ use Rattle.transcript.specs.Transcripts.{reply_lines}
 abbrev Reply : Type 0
 Reply = Result Answer Refusal
 
-pub lines_more : (cs : List Call) (rs : List Reply) (i : ℕ) (c : Call) (r : Reply) (old new all : List ℕ)
-    → i < length cs → i < length rs
-    → new ≡ old ++ reply_line (get_or cs i c) (get_or rs i r)
-    → old ++ reply_lines (drop i cs) (drop i rs) ≡ all
-    → new ++ reply_lines (drop (i + 1) cs) (drop (i + 1) rs) ≡ all
-lines_more cs rs i c r old new all l m e inv =
-    let rest = reply_lines (drop (i + 1) cs) (drop (i + 1) rs) in
-    ap (λ (z : List ℕ). z ++ rest) e
-    ∙ append_assoc old (reply_line (get_or cs i c) (get_or rs i r)) rest
-    ∙ ap (λ (z : List ℕ). old ++ z)
-    (sym (at_drop_more (λ xs. reply_lines xs (get_or rs i r ∷ drop (i + 1) rs)) cs i c l))
-    ∙ ap (λ (z : List ℕ). old ++ z) (sym (at_drop_more (reply_lines (drop i cs)) rs i r m))
-    ∙ inv
+pub lines_more : (c : Call) (r : Reply) (cs cs' : List Call) (rs rs' : List Reply) (old new all : List ℕ)
+    → cs ≡ c ∷ cs' → rs ≡ r ∷ rs' → new ≡ old ++ reply_line c r
+    → old ++ reply_lines cs rs ≡ all
+    → new ++ reply_lines cs' rs' ≡ all
+lines_more c r cs cs' rs rs' old new all e f is was = rw (is, append_assoc) (rw (e, f) at was)
 
-pub lines_all : (cs : List Call) (rs : List Reply) (i : ℕ) (text all : List ℕ) → length cs ≤ i
-    → text ++ reply_lines (drop i cs) (drop i rs) ≡ all
+-- no call or no answer is left
+no_lines : (cs : List Call) (rs : List Reply) → (cs ≡ []) ⊎ (rs ≡ []) → reply_lines cs rs ≡ []
+no_lines [] rs h = refl
+no_lines (c ∷ cs) [] h = refl
+no_lines (c ∷ cs) (r ∷ rs) h = grind arith
+
+pub lines_all : (cs : List Call) (rs : List Reply) (text all : List ℕ) → (cs ≡ []) ⊎ (rs ≡ [])
+    → text ++ reply_lines cs rs ≡ all
     → text ≡ all
-lines_all cs rs i text all h inv =
-    sym (append-nil text)
-    ∙ ap (λ (z : List ℕ). text ++ z) (sym (at_drop_all (λ xs. reply_lines xs (drop i rs)) cs i h))
-    ∙ inv
+lines_all cs rs text all h was = rw (no_lines cs rs h, append-nil) at was
 
 pub lines_front : (t : Tree) (s : State) (cs : List Call) (rest : List Reply)
     → reply_lines cs (answers t s cs ++ rest) ≡ reply_lines cs (answers t s cs)

@@ -1,7 +1,8 @@
 -- The program's memory has room for every order: its job is never refused.
-use Rattle.std.proofs.Common.{◌≡◌, ℕ, ◌≤◌, List, [], length, Ok, Err, Result, sym, refl, ap, ◌∙◌, subst, ap₂, arith}
+use Rattle.std.proofs.Common.{◌≡◌, ℕ, ◌≤◌, Bool, true, false, List, [], length, is_some, Ok, Err, Result, sym, refl, ap, ◌∙◌, subst, ap₂, arith}
 use lib.ListN.{length-replicate}
 use Rattle.std.proofs.lemmas.Bool.{le-leb}
+use Rattle.refusal.specs.Numbers.{number_of}
 use Rattle.refusal.specs.declared.Refusal.{Refusal}
 use Rattle.memory.specs.Layout.{byte_words}
 use Rattle.plan.specs.Trees.{homes}
@@ -59,14 +60,19 @@ module _ (bs window : List ℕ) (rs : List Record) (out : List Reply)
   pub lines_told : (text : List ℕ) → transcript bs window rs out ≡ Ok text → text ≡ lines_of bs
   lines_told text e = ap lines_in (sym e ∙ blank_transcript)
 
-  pub never_refused : (e : Refusal) → transcript bs window rs out ≡ Err e → ⊥
+  never_refused : (e : Refusal) → transcript bs window rs out ≡ Err e → ⊥
   never_refused e r =
       let no : Ok (lines_of bs) ≡ Err e = sym blank_transcript ∙ r in
-      subst answered no tt
+      cc
+
+  -- so a refusal of the run has no number
+  pub numberless : (e : Refusal) → (is_some (number_of e) ≡ true → transcript bs window rs out ≡ Err e)
+      → is_some (number_of e) ≡ false
+  numberless e h = not_true (is_some (number_of e)) (λ some. never_refused e (h some))
     where
-      answered : Result (List ℕ) Refusal → Type 0
-      answered (Ok x) = Unit {0}
-      answered (Err x) = ⊥
+      not_true : (b : Bool) → (b ≡ true → ⊥) → b ≡ false
+      not_true true k = absurd (k refl)
+      not_true false k = refl
 
   pub law_told : LawfulRun (read_whole bs) window rs → LawfulRun (read_whole bs) blank_window idle_records
   law_told law =

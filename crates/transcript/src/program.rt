@@ -1,6 +1,7 @@
 //! The whole work of the program: the bytes of an order in, the lines of its run out.
 
-ghost use Rattle.std.specs.Prelude.{◌≡◌, IfOk, OnOk};
+ghost use Rattle.std.specs.Prelude.{◌≡◌, false, is_some, IfOk, OnOk};
+ghost use Rattle.refusal.specs.Numbers.{number_of};
 ghost use Rattle.order.specs.Whole.{read_whole};
 ghost use Rattle.transcript.specs.Program.{blank_window, idle_records, lines_of};
 ghost use Rattle.transcript.specs.Transcripts.{LawfulRun};
@@ -8,6 +9,7 @@ ghost use Rattle.transcript.specs.Transcripts.{LawfulRun};
 use crate::run::run_order;
 use places::answer::Answer;
 use places::record::Record;
+use refusal::Refusal;
 use std::alloc::{AllocError, Global};
 
 // The largest plan has 1,024 ranks and 256 elements: 1,280 homes of 40 bytes. A call has three bytes.
@@ -16,6 +18,16 @@ const WINDOW_BYTES: usize = 51200;
 const MOST_RANKS: usize = 1024;
 
 const MOST_CALLS: usize = 21845;
+
+// The error behind a refusal without a number.
+fn memory_error(refusal: Refusal) -> AllocError
+    requires { is_some (number_of refusal) ≡ false }
+{
+    match refusal {
+        Refusal::OutOfMemory => AllocError,
+        _ => unreachable!(),
+    }
+}
 
 /// Runs an order over a memory of bytes with room for every plan, and answers the lines of the run.
 /// They depend on the order alone; no order is refused, only memory can be wanting.
@@ -34,19 +46,5 @@ pub fn transcribe(heap: Global, order: &[u8]) -> Result<Vec<u8>, AllocError>
     let mut window = vec![in heap; 0u8; WINDOW_BYTES]?;
     let mut records = vec![in heap; idle; MOST_RANKS]?;
     let mut answers = vec![in heap; Ok(Answer::Free); MOST_CALLS]?;
-    match run_order(
-        heap,
-        order,
-        window.as_mut_slice(),
-        records.as_mut_slice(),
-        answers.as_mut_slice(),
-    ) {
-        Ok(text) => Ok(text),
-        Err(refusal) => {
-            if refusal.number().is_some() {
-                unreachable()
-            }
-            Err(AllocError)
-        }
-    }
+    run_order(heap, order, &mut window, &mut records, &mut answers).map_err(memory_error)
 }

@@ -1,50 +1,18 @@
 //! The run of an order: from its bytes to the lines that tell it.
 
-ghost use Rattle.std.specs.Prelude.{◌≡◌, ◌≤◌, true, ◌++◌, length, is_some, IfOk, Ok, Err, MatchResult, OnOk};
+ghost use Rattle.std.specs.Prelude.{◌≡◌, true, is_some, Ok, Err, MatchResult, OnOk};
 ghost use Rattle.refusal.specs.Numbers.{number_of};
-ghost use Rattle.refusal.specs.declared.Refusal.TheVariants.{OutOfMemory};
-ghost use Rattle.order.specs.Lines.{bad_line};
 ghost use Rattle.order.specs.Whole.{read_whole};
-ghost use Rattle.transcript.specs.Transcripts.{LawfulRun, NearEnd, fault_line, reply_lines, transcript};
+ghost use Rattle.transcript.specs.Transcripts.{LawfulRun, transcript};
 
-use crate::lines::{push_bad, push_replies};
+use crate::lines::tell;
 use job::run::run_job;
 use memory::ByteMemory;
-use order::fault::Fault;
 use order::whole::{OrderRead, read_order};
 use places::answer::Answer;
 use places::record::Record;
 use refusal::Refusal;
-use std::alloc::{AllocError, Global};
-
-// The one line of an order without a plan.
-fn tell_fault(heap: Global, fault: Fault) -> Result<Vec<u8>, AllocError>
-    requires { fault.offset ≤ 65535 }
-    ensures { IfOk result (λ v. v.items ≡ bad_line fault) }
-{
-    let mut text = Vec::new(heap);
-    push_bad(&mut text, fault)?;
-    Ok(text)
-}
-
-// The lines of the calls that ran, and the line of the fault that ended them, if any.
-fn tell_run(
-    heap: Global,
-    order: &OrderRead,
-    answers: &[Result<Answer, Refusal>],
-) -> Result<Vec<u8>, AllocError>
-    requires { (length order.now.calls.items ≤ length answers.now) × (NearEnd order.now.fault) }
-    ensures { IfOk result (λ v. v.items
-        ≡ reply_lines order.now.calls.items answers.now
-        ++ fault_line order.now.fault) }
-{
-    let mut text = Vec::new(heap);
-    push_replies(&mut text, order.calls.as_slice(), answers)?;
-    if let Some(fault) = order.fault {
-        push_bad(&mut text, fault)?;
-    }
-    Ok(text)
-}
+use std::alloc::Global;
 
 // Runs an order over a byte memory in the caller's window, with the caller's tables of records and answers, and
 // answers the lines of the run: one for each call, and one for the fault that ends a bad order.
@@ -67,24 +35,12 @@ pub(crate) fn run_order(
         records.old) }
 {
     match read_order(heap, order) {
-        Ok(read) => {
+        Ok(OrderRead { plan, calls, fault }) => {
             let mut memory = ByteMemory::new(window);
-            run_job(
-                &read.plan,
-                &mut memory,
-                records,
-                read.calls.as_slice(),
-                answers,
-            )?;
-            let text = tell_run(heap, &read, answers)?;
-            Ok(text)
+            run_job(&plan, &mut memory, records, &calls, answers)?;
+            Ok(tell(heap, &calls, answers, fault)?)
         }
-        Err(fault) => {
-            if fault.refusal.number().is_none() {
-                return Err(fault.refusal);
-            }
-            let text = tell_fault(heap, fault)?;
-            Ok(text)
-        }
+        Err(fault) if fault.refusal.number().is_none() => Err(fault.refusal),
+        Err(fault) => Ok(tell(heap, &[], &[], Some(fault))?),
     }
 }
