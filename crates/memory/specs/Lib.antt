@@ -1,7 +1,7 @@
 pub mod Sizes
 pub mod Words
+pub mod Rest
 pub mod Layout
-pub mod Tables
-pub mod Windows
+pub mod Lent
 pub mod Joins
 pub mod Operations

@@ -5,12 +5,9 @@ use Rattle.std.specs.Prelude.{ℕ}
 abbrev pub max_homes : ℕ
 max_homes = 4096
 
--- the words of a home, and the bytes of one
+-- the words of a home
 abbrev pub home_words : ℕ
 home_words = 5
-
-abbrev pub home_bytes : ℕ
-home_bytes = 40
 
 -- the offsets of a home's words
 abbrev pub next_offset : ℕ

@@ -11,16 +11,7 @@ pub(crate) fn load(bytes: &[u8], at: usize) -> u64
     requires { at + 8 ≤ length bytes.now }
     ensures { result ≡ be_word bytes.now at }
 {
-    u64::from_be_bytes([
-        bytes[at],
-        bytes[at + 1],
-        bytes[at + 2],
-        bytes[at + 3],
-        bytes[at + 4],
-        bytes[at + 5],
-        bytes[at + 6],
-        bytes[at + 7],
-    ])
+    u64::from_be_bytes(bytes[at..at + 8].try_into().unwrap())
 }
 
 /// Writes a word as the eight bytes from `at` on, and no other byte.

@@ -3,6 +3,7 @@
 //! Reading stands apart from changing, so that code which only reads can say so.
 
 ghost use Rattle.std.specs.Prelude.{◌≡◌, ◌≤◌};
+ghost use Rattle.memory.specs.Rest.{Rest, no_rest};
 ghost use Rattle.memory.specs.Words.{Words, got, accepted, written, added, exchanged};
 
 use refusal::Refusal;
@@ -27,14 +28,21 @@ pub trait ReadMemory {
 /// Homes whose words are also changed, one word at a time.
 ///
 /// Each operation touches its one word only, and a refusal changes none. The count never changes.
+///
+/// A memory needs a `put` of its own. The default bodies of the others are a get and a put: a memory
+/// whose words are shared writes its own, in one step.
 pub trait Memory: ReadMemory {
+    // What a memory has besides its homes' words, which every operation leaves as it was.
+    ghost rest: { Rest Self } = { no_rest };
+
     /// Writes a word.
     fn put(&mut self, home: u64, offset: u64, word: u64) -> Result<(), Refusal>
         ensures value { result ≡ accepted (Self.ReadMemory.words self.old) home offset }
         ensures after { Self.ReadMemory.words self.new
             ≡ written (Self.ReadMemory.words self.old) home offset word }
         ensures count { (Self.ReadMemory.words self.new).count
-            ≡ (Self.ReadMemory.words self.old).count };
+            ≡ (Self.ReadMemory.words self.old).count }
+        ensures rest { rest.Stays self.old self.new };
 
     /// Writes a word, and answers the old one.
     fn swap(&mut self, home: u64, offset: u64, word: u64) -> Result<u64, Refusal>
@@ -42,7 +50,13 @@ pub trait Memory: ReadMemory {
         ensures after { Self.ReadMemory.words self.new
             ≡ written (Self.ReadMemory.words self.old) home offset word }
         ensures count { (Self.ReadMemory.words self.new).count
-            ≡ (Self.ReadMemory.words self.old).count };
+            ≡ (Self.ReadMemory.words self.old).count }
+        ensures rest { rest.Stays self.old self.new }
+    {
+        let old = self.get(home, offset)?;
+        self.put(home, offset, word)?;
+        Ok(old)
+    }
 
     /// Adds to a word modulo 2^64, and answers the old one. A subtraction is an add.
     fn add(&mut self, home: u64, offset: u64, by: u64) -> Result<u64, Refusal>
@@ -50,7 +64,13 @@ pub trait Memory: ReadMemory {
         ensures after { Self.ReadMemory.words self.new
             ≡ added (Self.ReadMemory.words self.old) home offset by }
         ensures count { (Self.ReadMemory.words self.new).count
-            ≡ (Self.ReadMemory.words self.old).count };
+            ≡ (Self.ReadMemory.words self.old).count }
+        ensures rest { rest.Stays self.old self.new }
+    {
+        let old = self.get(home, offset)?;
+        self.put(home, offset, old.wrapping_add(by))?;
+        Ok(old)
+    }
 
     /// Writes `new` if the word equals `expected`, and answers the old word in either case.
     fn cas(&mut self, home: u64, offset: u64, expected: u64, new: u64) -> Result<u64, Refusal>
@@ -58,5 +78,13 @@ pub trait Memory: ReadMemory {
         ensures after { Self.ReadMemory.words self.new
             ≡ exchanged (Self.ReadMemory.words self.old) home offset expected new }
         ensures count { (Self.ReadMemory.words self.new).count
-            ≡ (Self.ReadMemory.words self.old).count };
+            ≡ (Self.ReadMemory.words self.old).count }
+        ensures rest { rest.Stays self.old self.new }
+    {
+        let old = self.get(home, offset)?;
+        if old == expected {
+            self.put(home, offset, new)?;
+        }
+        Ok(old)
+    }
 }

@@ -1,12 +1,13 @@
 //! The joined memory: any two memories, one after the other.
 
-ghost use Rattle.memory.specs.Joins.{Lies, words_of, spare_of};
+ghost use Rattle.memory.specs.Joins.{Lies, words_of, rest_of};
 ghost use Rattle.memory.specs.Layout.{joined_words};
-ghost use Rattle.memory.specs.Words.{got, accepted, written, added, exchanged};
+ghost use Rattle.memory.specs.Operations.{answered, performed};
 ghost use Rattle.std.specs.Prelude.{◌≡◌};
 
 use crate::interface::{Memory, ReadMemory};
 use crate::offsets::MAX_HOMES;
+use crate::operations::{Operation, perform};
 use refusal::Refusal;
 
 /// Two memories as one: homes 1 to m are the first's m homes, the rest the second's, 4,096 at most.
@@ -21,19 +22,18 @@ pub struct JoinedMemory<P, Q> {
 enum Side {
     First(u64),
     Second(u64),
-    Neither,
 }
 
-// Where a home lies, if the first memory has `border` homes.
-fn locate(border: u64, home: u64) -> Side
+// Where a home lies, if the first memory has `border` homes; above 4,096 homes there is none.
+fn locate(border: u64, home: u64) -> Result<Side, Refusal>
     ensures { Lies border home result }
 {
     if home > MAX_HOMES {
-        Side::Neither
+        Err(Refusal::UnknownHome)
     } else if home <= border {
-        Side::First(home)
+        Ok(Side::First(home))
     } else {
-        Side::Second(home - border)
+        Ok(Side::Second(home - border))
     }
 }
 
@@ -56,84 +56,50 @@ impl<P: ReadMemory, Q: ReadMemory> ReadMemory for JoinedMemory<P, Q> {
     }
 
     fn get(&self, home: u64, offset: u64) -> Result<u64, Refusal> {
-        match locate(self.first.count(), home) {
+        match locate(self.first.count(), home)? {
             Side::First(near) => self.first.get(near, offset),
             Side::Second(far) => self.second.get(far, offset),
-            Side::Neither => Err(Refusal::UnknownHome),
         }
     }
 }
 
+impl<P: Memory, Q: Memory> JoinedMemory<P, Q> {
+    // The part that a home lies in performs the operation, by its own method of that name.
+    fn delegate(&mut self, home: u64, offset: u64, operation: Operation) -> Result<u64, Refusal>
+        ensures value { result ≡ answered (words_of P.ReadMemory.words Q.ReadMemory.words self.old)
+            home offset operation }
+        ensures after { words_of P.ReadMemory.words Q.ReadMemory.words self.new
+            ≡ performed (words_of P.ReadMemory.words Q.ReadMemory.words self.old)
+            home offset operation }
+        ensures rest { (rest_of P.ReadMemory.words Q.ReadMemory.words P.Memory.rest Q.Memory.rest).Stays
+            self.old self.new }
+    {
+        match locate(self.first.count(), home)? {
+            Side::First(near) => perform(&mut self.first, near, offset, operation),
+            Side::Second(far) => perform(&mut self.second, far, offset, operation),
+        }
+    }
+}
+
+// Each operation is the part's own, and no default body: where a part shares its words, its own swap,
+// add and cas are one step each, and a get and a put are two.
 impl<P: Memory, Q: Memory> Memory for JoinedMemory<P, Q> {
-    fn put(&mut self, home: u64, offset: u64, word: u64) -> Result<(), Refusal>
-        ensures value { result
-            ≡ accepted (words_of P.ReadMemory.words Q.ReadMemory.words self.old) home offset }
-        ensures after { words_of P.ReadMemory.words Q.ReadMemory.words self.new
-            ≡ written (words_of P.ReadMemory.words Q.ReadMemory.words self.old)
-            home offset word }
-        ensures count { (words_of P.ReadMemory.words Q.ReadMemory.words self.new).count
-            ≡ (words_of P.ReadMemory.words Q.ReadMemory.words self.old).count }
-        ensures spare { spare_of P.ReadMemory.words Q.ReadMemory.words self.new
-            ≡ spare_of P.ReadMemory.words Q.ReadMemory.words self.old }
-    {
-        match locate(self.first.count(), home) {
-            Side::First(near) => self.first.put(near, offset, word),
-            Side::Second(far) => self.second.put(far, offset, word),
-            Side::Neither => Err(Refusal::UnknownHome),
-        }
+    ghost rest = { rest_of P.ReadMemory.words Q.ReadMemory.words P.Memory.rest Q.Memory.rest };
+
+    fn put(&mut self, home: u64, offset: u64, word: u64) -> Result<(), Refusal> {
+        self.delegate(home, offset, Operation::Put(word))
+            .map(|_| ())
     }
 
-    fn swap(&mut self, home: u64, offset: u64, word: u64) -> Result<u64, Refusal>
-        ensures value { result
-            ≡ got (words_of P.ReadMemory.words Q.ReadMemory.words self.old) home offset }
-        ensures after { words_of P.ReadMemory.words Q.ReadMemory.words self.new
-            ≡ written (words_of P.ReadMemory.words Q.ReadMemory.words self.old)
-            home offset word }
-        ensures count { (words_of P.ReadMemory.words Q.ReadMemory.words self.new).count
-            ≡ (words_of P.ReadMemory.words Q.ReadMemory.words self.old).count }
-        ensures spare { spare_of P.ReadMemory.words Q.ReadMemory.words self.new
-            ≡ spare_of P.ReadMemory.words Q.ReadMemory.words self.old }
-    {
-        match locate(self.first.count(), home) {
-            Side::First(near) => self.first.swap(near, offset, word),
-            Side::Second(far) => self.second.swap(far, offset, word),
-            Side::Neither => Err(Refusal::UnknownHome),
-        }
+    fn swap(&mut self, home: u64, offset: u64, word: u64) -> Result<u64, Refusal> {
+        self.delegate(home, offset, Operation::Swap(word))
     }
 
-    fn add(&mut self, home: u64, offset: u64, by: u64) -> Result<u64, Refusal>
-        ensures value { result
-            ≡ got (words_of P.ReadMemory.words Q.ReadMemory.words self.old) home offset }
-        ensures after { words_of P.ReadMemory.words Q.ReadMemory.words self.new
-            ≡ added (words_of P.ReadMemory.words Q.ReadMemory.words self.old)
-            home offset by }
-        ensures count { (words_of P.ReadMemory.words Q.ReadMemory.words self.new).count
-            ≡ (words_of P.ReadMemory.words Q.ReadMemory.words self.old).count }
-        ensures spare { spare_of P.ReadMemory.words Q.ReadMemory.words self.new
-            ≡ spare_of P.ReadMemory.words Q.ReadMemory.words self.old }
-    {
-        match locate(self.first.count(), home) {
-            Side::First(near) => self.first.add(near, offset, by),
-            Side::Second(far) => self.second.add(far, offset, by),
-            Side::Neither => Err(Refusal::UnknownHome),
-        }
+    fn add(&mut self, home: u64, offset: u64, by: u64) -> Result<u64, Refusal> {
+        self.delegate(home, offset, Operation::Add(by))
     }
 
-    fn cas(&mut self, home: u64, offset: u64, expected: u64, new: u64) -> Result<u64, Refusal>
-        ensures value { result
-            ≡ got (words_of P.ReadMemory.words Q.ReadMemory.words self.old) home offset }
-        ensures after { words_of P.ReadMemory.words Q.ReadMemory.words self.new
-            ≡ exchanged (words_of P.ReadMemory.words Q.ReadMemory.words self.old)
-            home offset expected new }
-        ensures count { (words_of P.ReadMemory.words Q.ReadMemory.words self.new).count
-            ≡ (words_of P.ReadMemory.words Q.ReadMemory.words self.old).count }
-        ensures spare { spare_of P.ReadMemory.words Q.ReadMemory.words self.new
-            ≡ spare_of P.ReadMemory.words Q.ReadMemory.words self.old }
-    {
-        match locate(self.first.count(), home) {
-            Side::First(near) => self.first.cas(near, offset, expected, new),
-            Side::Second(far) => self.second.cas(far, offset, expected, new),
-            Side::Neither => Err(Refusal::UnknownHome),
-        }
+    fn cas(&mut self, home: u64, offset: u64, expected: u64, new: u64) -> Result<u64, Refusal> {
+        self.delegate(home, offset, Operation::Cas { expected, new })
     }
 }

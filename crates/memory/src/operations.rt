@@ -34,30 +34,14 @@ pub fn perform<M: Memory>(
     ensures value { result ≡ answered (M.ReadMemory.words memory.old) home offset operation }
     ensures after { M.ReadMemory.words memory.new
         ≡ performed (M.ReadMemory.words memory.old) home offset operation }
+    ensures rest { M.Memory.rest.Stays memory.old memory.new }
     ensures local { Local (M.ReadMemory.words memory.old)
         (M.ReadMemory.words memory.new)
         home offset }
 {
-    dispatch(memory, home, offset, operation)
-}
-
-// Calls the method that the operation names.
-fn dispatch<M: Memory>(
-    memory: &mut M,
-    home: u64,
-    offset: u64,
-    operation: Operation,
-) -> Result<u64, Refusal>
-    ensures value { result ≡ answered (M.ReadMemory.words memory.old) home offset operation }
-    ensures after { M.ReadMemory.words memory.new
-        ≡ performed (M.ReadMemory.words memory.old) home offset operation }
-{
     match operation {
         Operation::Get => memory.get(home, offset),
-        Operation::Put(word) => match memory.put(home, offset, word) {
-            Ok(()) => Ok(0),
-            Err(refusal) => Err(refusal),
-        },
+        Operation::Put(word) => memory.put(home, offset, word).map(|()| 0),
         Operation::Swap(word) => memory.swap(home, offset, word),
         Operation::Add(by) => memory.add(home, offset, by),
         Operation::Cas { expected, new } => memory.cas(home, offset, expected, new),

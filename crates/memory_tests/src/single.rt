@@ -1,7 +1,8 @@
 //! A memory of one's own, as an example: one home, whose five words it keeps itself.
 
-ghost use Rattle.memory.specs.Layout.{row_words};
-ghost use Rattle.std.specs.Prelude.{slice_index};
+ghost use Rattle.memory.specs.Layout.{place_of, row_words};
+ghost use Rattle.memory.specs.Words.{refusing};
+ghost use Rattle.std.specs.Prelude.{◌≡◌, ◌≤◌, IfOk, Ok, Err, slice_index};
 
 use memory::{DEPART, Memory, ReadMemory};
 use refusal::Refusal;
@@ -12,6 +13,20 @@ pub struct SingleHome {
     pub words: [u64; 5],
 }
 
+// The place of the word at a home and an offset, or the refusal.
+fn place(home: u64, offset: u64) -> Result<usize, Refusal>
+    ensures value { result ≡ refusing 1 home offset Err (Ok (place_of home offset)) }
+    ensures inside { IfOk result (λ at. (home ≡ 1) × (offset ≤ 4) × (at ≡ place_of home offset)) }
+{
+    if home != 1 {
+        return Err(Refusal::UnknownHome);
+    }
+    if offset > DEPART {
+        return Err(Refusal::UnknownOffset);
+    }
+    Ok(offset as usize)
+}
+
 impl ReadMemory for SingleHome {
     ghost words = { λ m. row_words 1 (λ i. slice_index m.words i) };
 
@@ -20,45 +35,16 @@ impl ReadMemory for SingleHome {
     }
 
     fn get(&self, home: u64, offset: u64) -> Result<u64, Refusal> {
-        if home != 1 {
-            return Err(Refusal::UnknownHome);
-        }
-        if offset > DEPART {
-            return Err(Refusal::UnknownOffset);
-        }
-        Ok(self.words[offset as usize])
+        let at = place(home, offset)?;
+        Ok(self.words[at])
     }
 }
 
+// Nothing else uses these words, so swap, add and cas may be a get and a put.
 impl Memory for SingleHome {
     fn put(&mut self, home: u64, offset: u64, word: u64) -> Result<(), Refusal> {
-        if home != 1 {
-            return Err(Refusal::UnknownHome);
-        }
-        if offset > DEPART {
-            return Err(Refusal::UnknownOffset);
-        }
-        self.words[offset as usize] = word;
+        let at = place(home, offset)?;
+        self.words[at] = word;
         Ok(())
-    }
-
-    fn swap(&mut self, home: u64, offset: u64, word: u64) -> Result<u64, Refusal> {
-        let old = self.get(home, offset)?;
-        self.put(home, offset, word)?;
-        Ok(old)
-    }
-
-    fn add(&mut self, home: u64, offset: u64, by: u64) -> Result<u64, Refusal> {
-        let old = self.get(home, offset)?;
-        self.put(home, offset, old.wrapping_add(by))?;
-        Ok(old)
-    }
-
-    fn cas(&mut self, home: u64, offset: u64, expected: u64, new: u64) -> Result<u64, Refusal> {
-        let old = self.get(home, offset)?;
-        if old == expected {
-            self.put(home, offset, new)?;
-        }
-        Ok(old)
     }
 }

@@ -61,8 +61,8 @@ const SIZES: [(usize, usize, u64); 6] = [
 
 /// The memory answers the rows.
 fn run<M: Memory>(rt: &impl Abort, memory: &mut M) {
-    for row in ROWS.iter() {
-        assert_eq!(rt; perform(memory, row.0, row.1, row.2), row.3);
+    for Row(home, offset, operation, answer) in ROWS {
+        assert_eq!(rt; perform(memory, home, offset, operation), answer);
     }
 }
 
@@ -114,9 +114,7 @@ fn every_memory_ends_at_its_last_home(rt: HostRuntime) -> Result<(), Fail> {
             ByteMemory::new(window.as_mut_slice()),
         );
         border(&rt, &mut joined, count.saturating_add(2).min(MAX_HOMES));
-        for byte in window.iter() {
-            assert_eq!(rt; *byte, 0);
-        }
+        assert!(rt; window.iter().all(|byte| *byte == 0));
     }
     Ok(())
 }

@@ -7,42 +7,44 @@ ghost use Rattle.refusal.specs.declared.Refusal.TheVariants.{OutOfMemory};
 
 use std::alloc::{AllocError, AllocFailed};
 
-/// Why a call was refused. Where several reasons hold, the one with the lowest number is answered.
+/// Why a call was refused, with the reason's number on the sheet.
+///
+/// Where several reasons hold, the one with the lowest number is answered.
 #[derive(Clone, Copy, PartialEq, Eq, Debug)]
 pub enum Refusal {
-    /// 1: the number of ranks, elements or levels, the counter spacing or a list's length is wrong.
-    PlanSize,
-    /// 2: the reader, writer or a level's threshold is out of range.
-    PlanThreshold,
-    /// 3: a parent is 0 or not below its element, or an element lies too deep.
-    PlanParent,
-    /// 4: a rank's element is missing or not at the lowest level.
-    PlanRank,
-    /// 5: too few records, or too few homes in the memory.
-    TooShort,
-    /// 6: the plan has no such rank.
-    UnknownRank,
-    /// 7: the rank's record is spoiled.
-    Spoiled,
-    /// 8: an ask by a rank that is not idle.
-    NotIdle,
-    /// 9: a step by a rank that is idle or in.
-    NotUnderWay,
-    /// 10: a leave by a rank that is not in.
-    NotIn,
-    /// 11: home 0, or a home above the memory's last.
-    UnknownHome,
-    /// 12: an offset above 4.
-    UnknownOffset,
-    /// 13: the order ends before its G, or inside a command.
-    Cut,
-    /// 14: an unknown command, or one that is not due.
-    Misplaced,
-    /// 15: the output buffer is too small.
-    BufferTooSmall,
-    /// 16: the order has more than 65,535 bytes.
-    OrderTooLong,
-    /// No number on the sheet: the machine has no memory left to give.
+    /// The number of ranks, elements or levels, the counter spacing or a list's length is wrong.
+    PlanSize = 1,
+    /// The reader, writer or a level's threshold is out of range.
+    PlanThreshold = 2,
+    /// A parent is 0 or not below its element, or an element lies too deep.
+    PlanParent = 3,
+    /// A rank's element is missing or not at the lowest level.
+    PlanRank = 4,
+    /// Too few records, or too few homes in the memory.
+    TooShort = 5,
+    /// The plan has no such rank.
+    UnknownRank = 6,
+    /// The rank's record is spoiled.
+    Spoiled = 7,
+    /// An ask by a rank that is not idle.
+    NotIdle = 8,
+    /// A step by a rank that is idle or in.
+    NotUnderWay = 9,
+    /// A leave by a rank that is not in.
+    NotIn = 10,
+    /// Home 0, or a home above the memory's last.
+    UnknownHome = 11,
+    /// An offset above 4.
+    UnknownOffset = 12,
+    /// The order ends before its G, or inside a command.
+    Cut = 13,
+    /// An unknown command, or one that is not due.
+    Misplaced = 14,
+    /// The output buffer is too small.
+    BufferTooSmall = 15,
+    /// The order has more than 65,535 bytes.
+    OrderTooLong = 16,
+    /// The machine has no memory left to give. This reason is not on the sheet.
     OutOfMemory,
 }
 
@@ -52,23 +54,8 @@ impl Refusal {
         ensures { result ≡ number_of self }
     {
         match self {
-            Refusal::PlanSize => Some(1),
-            Refusal::PlanThreshold => Some(2),
-            Refusal::PlanParent => Some(3),
-            Refusal::PlanRank => Some(4),
-            Refusal::TooShort => Some(5),
-            Refusal::UnknownRank => Some(6),
-            Refusal::Spoiled => Some(7),
-            Refusal::NotIdle => Some(8),
-            Refusal::NotUnderWay => Some(9),
-            Refusal::NotIn => Some(10),
-            Refusal::UnknownHome => Some(11),
-            Refusal::UnknownOffset => Some(12),
-            Refusal::Cut => Some(13),
-            Refusal::Misplaced => Some(14),
-            Refusal::BufferTooSmall => Some(15),
-            Refusal::OrderTooLong => Some(16),
             Refusal::OutOfMemory => None,
+            listed => Some(listed as u8),
         }
     }
 }
