@@ -24,19 +24,11 @@ fn go(place: Place, answer: Answer) -> Result<Next, Refusal>
     Ok(Next { place, answer })
 }
 
-// A level above the rank's own.
-fn is_inner(plan: &Plan, rank: u16, level: u8) -> bool
-    ensures value { result ≡ nat_lt level (own_level (tree_of plan.now) rank) }
-    ensures bound { T result → level < 255 }
-{
-    level < plan.own_level(rank)
-}
-
 // The rank is done with a level on its way down.
 fn done(plan: &Plan, rank: u16, level: u8) -> Result<Next, Refusal>
     ensures { result ≡ level_done (tree_of plan.now) rank level }
 {
-    if is_inner(plan, rank, level) {
+    if plan.is_inner(rank, level) {
         go(Place::U8 { level: level + 1 }, Answer::Moved)
     } else {
         go(Place::Idle, Answer::Free)

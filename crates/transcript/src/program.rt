@@ -9,14 +9,14 @@ ghost use Rattle.transcript.specs.Transcripts.{LawfulRun};
 use crate::run::run_order;
 use places::answer::Answer;
 use places::record::Record;
+use plan::shape::{MOST_ELEMENTS, MOST_RANKS};
 use refusal::Refusal;
 use std::alloc::{AllocError, Global};
 
-// The largest plan has 1,024 ranks and 256 elements: 1,280 homes of 40 bytes. A call has three bytes.
-const WINDOW_BYTES: usize = 51200;
+// Each rank and each element of a plan has a home, of 40 bytes.
+const WINDOW_BYTES: usize = 40 * (MOST_RANKS + MOST_ELEMENTS);
 
-const MOST_RANKS: usize = 1024;
-
+// A call has three bytes of an order.
 const MOST_CALLS: usize = 21845;
 
 // The error behind a refusal without a number.
@@ -36,15 +36,8 @@ pub fn transcribe(heap: Global, order: &[u8]) -> Result<Vec<u8>, AllocError>
     ensures lines { IfOk result (λ v. v.items ≡ lines_of order.now) }
     ensures law { OnOk result (LawfulRun (read_whole order.now) blank_window idle_records) }
 {
-    let idle = Record {
-        place: 0,
-        level: 0,
-        home: 0,
-        number: 0,
-        counter: 0,
-    };
     let mut window = vec![in heap; 0u8; WINDOW_BYTES]?;
-    let mut records = vec![in heap; idle; MOST_RANKS]?;
+    let mut records = vec![in heap; Record::IDLE; MOST_RANKS]?;
     let mut answers = vec![in heap; Ok(Answer::Free); MOST_CALLS]?;
     run_order(heap, order, &mut window, &mut records, &mut answers).map_err(memory_error)
 }

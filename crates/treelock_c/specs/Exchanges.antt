@@ -1,5 +1,5 @@
 -- Calls and answers as bytes and numbers: what an exchange asks, and how its answer is told.
-use Rattle.std.specs.Prelude.{ℕ, cond, List, [], ◌∷◌, Some, None, Ok, Err, Option, Result, ◌==◌}
+use Rattle.std.specs.Prelude.{ℕ, List, [], ◌∷◌, Some, None, Ok, Err, Option, Result}
 use Rattle.std.specs.Option.{unwrap_or}
 use Rattle.refusal.specs.Numbers.{number_of}
 use Rattle.refusal.specs.declared.Refusal.{Refusal}
@@ -12,17 +12,12 @@ use Rattle.places.specs.declared.record.Record.{Record}
 use Rattle.lock.specs.Outcomes.{Outcome}
 use Rattle.law.specs.Calls.{State, called, state}
 use Rattle.law.specs.declared.call.Call.{Call}
-use Rattle.law.specs.declared.call.Call.TheVariants.{AskWrite, AskRead, Step, Leave}
-use Rattle.order.specs.Commands.{letter_L, letter_R, letter_S, letter_W}
+use Rattle.order.specs.Calls.{named_call}
 use Rattle.treelock_c.specs.declared.exchange.Exchange.{Exchange}
 
 -- the call of an exchange; its letters are those of an order, and any other is none of a call's
 abbrev pub call_in : Exchange → Option Call
-call_in e =
-    cond (e.letter == letter_W) (Some (AskWrite e.rank))
-    (cond (e.letter == letter_R) (Some (AskRead e.rank))
-    (cond (e.letter == letter_S) (Some (Step e.rank))
-    (cond (e.letter == letter_L) (Some (Leave e.rank)) None)))
+call_in e = named_call e.letter e.rank
 
 -- the calls of a table: the job
 abbrev pub with_call : Option Call → List Call → List Call

@@ -1,9 +1,8 @@
 //! A call and what it answered, in the form in which they cross to C.
 
 ghost use Rattle.std.specs.Prelude.{◌≡◌};
-ghost use Rattle.treelock_c.specs.Exchanges.{answer_code, call_in, number_code};
+ghost use Rattle.treelock_c.specs.Exchanges.{answer_code, number_code};
 
-use law::call::Call;
 use places::answer::Answer;
 use refusal::Refusal;
 
@@ -18,20 +17,6 @@ pub struct Exchange {
     pub answer: u8,
     /// Any number; one that the plan does not have is refused by 6.
     pub rank: u16,
-}
-
-// The call of an exchange, if its letter is that of one.
-pub(crate) fn call_of(e: Exchange) -> Option<Call>
-    ensures { result ≡ call_in e }
-{
-    let rank = e.rank;
-    match e.letter as char {
-        'W' => Some(Call::AskWrite { rank }),
-        'R' => Some(Call::AskRead { rank }),
-        'S' => Some(Call::Step { rank }),
-        'L' => Some(Call::Leave { rank }),
-        _ => None,
-    }
 }
 
 // The number of a refusal, or 255 for want of memory, which has none.

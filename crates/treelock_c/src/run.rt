@@ -8,21 +8,21 @@ ghost use Rattle.order.specs.Reading.{reading};
 ghost use Rattle.treelock_c.specs.Exchanges.{call_in, calls_in, made_call, replies};
 ghost use Rattle.treelock_c.specs.Runs.{Lawful, Told, outcome};
 
-use crate::exchange::{Exchange, call_of, code_of_answer, code_of_refusal};
+use crate::exchange::{Exchange, code_of_answer, code_of_refusal};
 use job::run::run_call;
 use lock::layout::layout;
 use memory::{Memory, WordMemory};
+use order::calls::call_of;
 use order::read::read_plan;
 use places::answer::Answer;
 use places::record::Record;
 use plan::plan::Plan;
+use plan::shape::{MOST_ELEMENTS, MOST_RANKS};
 use refusal::Refusal;
 use std::alloc::Global;
 
-// The largest plan has 1,024 ranks and 256 elements: 1,280 homes of five words.
-const MOST_WORDS: usize = 6400;
-
-const MOST_RANKS: usize = 1024;
+// Each rank and each element of a plan has a home, of five words.
+const MOST_WORDS: usize = 5 * (MOST_RANKS + MOST_ELEMENTS);
 
 // One exchange's call; a letter that is none of a call's is refused by 14, and nothing changes.
 fn answer_one<M: Memory>(
@@ -40,7 +40,7 @@ fn answer_one<M: Memory>(
         ≡ (made_call (tree_of plan.now) (M.ReadMemory.words memory.old)
         records.old (call_in e)).records }
 {
-    let call = call_of(e).ok_or(Refusal::Misplaced)?;
+    let call = call_of(e.letter as char, e.rank).ok_or(Refusal::Misplaced)?;
     run_call(plan, memory, records, call)
 }
 
@@ -80,15 +80,8 @@ fn run(heap: Global, plan: &[u8], table: &mut [Exchange]) -> Result<(), Refusal>
     ensures law { OnOk result (Lawful (reading plan.now) table.old) }
 {
     let read = read_plan(heap, plan).map_err(|fault| fault.refusal)?;
-    let idle = Record {
-        place: 0,
-        level: 0,
-        home: 0,
-        number: 0,
-        counter: 0,
-    };
     let mut words = vec![in heap; 0u64; MOST_WORDS]?;
-    let mut records = vec![in heap; idle; MOST_RANKS]?;
+    let mut records = vec![in heap; Record::IDLE; MOST_RANKS]?;
     let mut memory = WordMemory::new(words.as_mut_slice());
     let lent = records.as_mut_slice();
     let _ = layout(&read.plan, &mut memory, lent);

@@ -11,14 +11,6 @@ use refusal::Refusal;
 use std::process::Abort;
 use std::test::Fail;
 
-const IDLE: Record = Record {
-    place: 0,
-    level: 0,
-    home: 0,
-    number: 0,
-    counter: 0,
-};
-
 // Which of 20 steps of a rank is the first with an answer.
 fn first_step(
     plan: &Plan,
@@ -69,30 +61,30 @@ fn read_again(plan: &Plan, words: &mut [u64], records: &mut [Record]) -> Option<
 
 /// The step at which a lone writer enters.
 pub(crate) fn writer_enters(plan: &Plan, rank: u16) -> Option<u64> {
-    write(plan, &mut [0; 40], &mut [IDLE; 5], rank)
+    write(plan, &mut [0; 40], &mut [Record::IDLE; 5], rank)
 }
 
 /// The step at which it is free again after its leave.
 pub(crate) fn writer_free(plan: &Plan, rank: u16) -> Option<u64> {
-    write_and_leave(plan, &mut [0; 40], &mut [IDLE; 5], rank)
+    write_and_leave(plan, &mut [0; 40], &mut [Record::IDLE; 5], rank)
 }
 
 /// A home's tail after that.
 pub(crate) fn tail_after_writer(plan: &Plan, rank: u16, home: u64) -> Result<u64, Fail> {
     let mut words = [0; 40];
-    let _ = write_and_leave(plan, &mut words, &mut [IDLE; 5], rank);
+    let _ = write_and_leave(plan, &mut words, &mut [Record::IDLE; 5], rank);
     Ok(WordMemory::new(&mut words).get(home, TAIL)?)
 }
 
 /// The step at which a returning reader enters.
 pub(crate) fn reader_returns(plan: &Plan) -> Option<u64> {
-    read_again(plan, &mut [0; 40], &mut [IDLE; 5])
+    read_again(plan, &mut [0; 40], &mut [Record::IDLE; 5])
 }
 
 /// ARRIVE and DEPART of a counter after that.
 pub(crate) fn counter_after_readers(plan: &Plan, counter: u16) -> Result<(u64, u64), Fail> {
     let mut words = [0; 40];
-    let _ = read_again(plan, &mut words, &mut [IDLE; 5]);
+    let _ = read_again(plan, &mut words, &mut [Record::IDLE; 5]);
     let home = plan.counter_home(counter);
     let memory = WordMemory::new(&mut words);
     Ok((memory.get(home, ARRIVE)?, memory.get(home, DEPART)?))
@@ -109,7 +101,7 @@ pub(crate) fn hands_on(
     let mut words = [0; 40];
     words[0] = 2;
     words[30] = 8;
-    let mut records = [IDLE; 5];
+    let mut records = [Record::IDLE; 5];
     records[0] = Record {
         place,
         level,
