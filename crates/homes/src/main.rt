@@ -7,7 +7,7 @@ use order::read::LONGEST_ORDER;
 use std::io::Read;
 
 fn main(rt: HostRuntime) -> anyhow::Result<()> {
-    // `treelock` reads in the same way. A function for both would be a library's, and no contract says what a stream gives.
+    // `treelock` reads in the same way: a library's function for both could not say in its contract what it reads.
     let heap = rt.alloc();
     let mut order = Vec::new(heap);
     // one byte past the limit is enough to see that an order is too long

@@ -11,7 +11,7 @@ use refusal::Refusal;
 use std::process::Abort;
 use std::test::Fail;
 
-// Plan, words and records are parameters and not a struct's fields: a call that is lent two fields at once gets no proof.
+// Plan, words and records are parameters and not fields of a struct, since a call with two fields lent gets no proof.
 
 // Which of 20 steps of a rank is the first with an answer.
 fn first_step(
