@@ -2,7 +2,6 @@
 
 ghost use Rattle.memory.specs.Layout.{cell_words};
 ghost use Rattle.memory.specs.Lent.{words_of, rest_of};
-ghost use Rattle.memory.specs.Words.{got, accepted, written, added, exchanged};
 ghost use Rattle.std.specs.Prelude.{◌≡◌};
 
 use crate::cell::Cell;
