@@ -1,5 +1,5 @@
 -- What a call leaves where the place of its rank is found, and where it is refused.
-use Rattle.std.proofs.Common.{◌≡◌, ℕ, true, List, Some, Ok, Err, refl, arith}
+use Rattle.std.proofs.Common.{◌≡◌, ℕ, true, List, Ok, Err, refl, arith}
 use Rattle.refusal.specs.declared.Refusal.{Refusal}
 use Rattle.memory.specs.Words.{Words}
 use Rattle.plan.specs.Trees.{Tree}
@@ -23,10 +23,4 @@ pub step_refused : (t : Tree) (ws : Words) (rs : List Record) (p : ℕ) (e : Ref
     → place_at t rs p ≡ Err e → stepped t ws rs p ≡ refused ws rs e
 step_refused t ws rs p e room h =
     let r = refused_at t rs p (stepped_from t ws rs p) (refused ws rs) e refl h in
-    grind arith
-
-pub step_taken : (t : Tree) (ws : Words) (rs : List Record) (p : ℕ) (q : Place) → roomy t ws rs ≡ true
-    → place_at t rs p ≡ Ok q → stepped t ws rs p ≡ stepped_from t ws rs p (Some q)
-step_taken t ws rs p q room h =
-    let r = stands_at t rs p (stepped_from t ws rs p) (refused ws rs) q h in
     grind arith

@@ -1,7 +1,7 @@
 use Rattle.std.proofs.Common.{sym, ◌∙◌, arith}
 use Rattle.std.proofs.lemmas.Result.{err_from_is_err_and}
 use Rattle.plan.specs.Trees.{tree_of}
-use Rattle.lock.proofs.Tested.{step_refused, step_taken}
+use Rattle.lock.proofs.Tested.{step_refused}
 use Rattle.lock.proofs.step.take_step.Goals as goal
 
 pub returns-in_err-place : goal.returns-in_err-place
@@ -10,19 +10,4 @@ returns-in_err-place g c =
     let e =
     step_refused (tree_of c.args.plan.now) (g.M.ReadMemory.words c.args.memory.now) c.args.records.now c.args.rank
     _ (grind arith) (sym c.place_of.ensures.value ∙ c.in_err-place.was) in
-    grind arith
-
-pub returns-in_err-next : goal.returns-in_err-next
-returns-in_err-next g c =
-    let r = err_from_is_err_and c.from_residual-in_err-next.result c.from_residual-in_err-next.ensures.1 in
-    let e =
-    step_taken (tree_of c.args.plan.now) (g.M.ReadMemory.words c.args.memory.now) c.args.records.now c.args.rank
-    _ (grind arith) (sym c.place_of.ensures.value ∙ c.in_ok-place.was) in
-    grind arith
-
-pub returns : goal.returns
-returns g c =
-    let e =
-    step_taken (tree_of c.args.plan.now) (g.M.ReadMemory.words c.args.memory.now) c.args.records.now c.args.rank
-    _ (grind arith) (sym c.place_of.ensures.value ∙ c.in_ok-place.was) in
     grind arith
