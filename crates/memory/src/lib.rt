@@ -10,7 +10,6 @@ mod offsets;
 mod operations;
 mod place;
 
-pub use cell::Cell;
 pub use interface::{Memory, ReadMemory};
 pub use joined::JoinedMemory;
 pub use lent::{ByteMemory, LentMemory, WordMemory};
