@@ -74,6 +74,7 @@ pub fn rank_line(heap: Global, plan: &Plan, rank: u16) -> Result<String, AllocEr
 }
 
 /// The line of a bad order.
+// The number as it is printed: any number has a line, and a Refusal in its place would ask more of callers.
 pub fn bad_line(heap: Global, number: u8, offset: usize) -> Result<String, AllocError>
     ensures { IfOk result (λ s. string_bytes s ≡ bad_line number offset) }
 {

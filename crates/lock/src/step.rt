@@ -31,31 +31,6 @@ fn row<M: Memory>(plan: &Plan, memory: &mut M, rank: u16, place: Place) -> Resul
     follow(plan, rank, place, old)
 }
 
-// The tests, the row, and the record written.
-fn take_step<M: Memory>(
-    plan: &Plan,
-    memory: &mut M,
-    records: &mut [Record],
-    rank: u16,
-) -> Result<Answer, Refusal>
-    ensures value { result ≡ (stepped (tree_of plan.now) (M.ReadMemory.words memory.old)
-        records.old rank).answer }
-    ensures words { M.ReadMemory.words memory.new
-        ≡ (stepped (tree_of plan.now) (M.ReadMemory.words memory.old)
-        records.old rank).words }
-    ensures records { records.new
-        ≡ (stepped (tree_of plan.now) (M.ReadMemory.words memory.old)
-        records.old rank).records }
-{
-    if !has_room(plan, memory, records) {
-        return Err(Refusal::TooShort);
-    }
-    let place = place_of(plan, records, rank)?;
-    let next = row(plan, memory, rank, place)?;
-    records[rank as usize - 1] = Record::from(next.place);
-    Ok(next.answer)
-}
-
 /// One step of a rank: refused by 5, 6, 7 or 9, by what the memory refuses, and last by a waiting writer's own 7.
 /// It changes at most the one word that the touch names, and at most the one record of its rank.
 pub fn step<M: Memory>(
@@ -75,5 +50,11 @@ pub fn step<M: Memory>(
     ensures one_word { OneWord (tree_of plan.now) (M.ReadMemory.words memory.old)
         records.old rank }
 {
-    take_step(plan, memory, records, rank)
+    if !has_room(plan, memory, records) {
+        return Err(Refusal::TooShort);
+    }
+    let place = place_of(plan, records, rank)?;
+    let next = row(plan, memory, rank, place)?;
+    records[rank as usize - 1] = Record::from(next.place);
+    Ok(next.answer)
 }

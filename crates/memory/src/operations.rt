@@ -7,6 +7,7 @@ use crate::interface::Memory;
 use refusal::Refusal;
 
 /// One of the five operations on a word, with its operands.
+// Data and no closure: the lock's table of places answers one, and who has a network performs it in its own way.
 #[derive(Clone, Copy)]
 pub enum Operation {
     /// Answers the word.

@@ -3,7 +3,7 @@
 ghost use Rattle.std.specs.Prelude.{◌≡◌, slice_index};
 ghost use Rattle.order.specs.Bytes.{bytes_from};
 
-// One byte.
+// One byte: a name for the library's call, by the definition that the format goes by.
 pub(crate) fn byte_at(order: &[u8], at: usize) -> u8
     ensures { result ≡ slice_index order.now at }
 {

@@ -39,7 +39,7 @@ fn text_of(answer: Answer) -> &'static str
     }
 }
 
-// The number that a line tells of a refusal.
+// The number that a line tells of a refusal: 0 where it has none, so that every refusal has a line.
 fn number_of(refusal: Refusal) -> u16
     ensures { result ≡ shown_number refusal }
 {

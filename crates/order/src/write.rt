@@ -28,7 +28,7 @@ fn head(shape: Shape) -> [u8; 20]
     ]
 }
 
-// A letter and its operand.
+// A letter of the format, as the byte that is written, and its operand.
 fn pair_command(letter: u8, operand: u16) -> [u8; 3]
     ensures { result ≡ command letter operand }
 {
@@ -36,7 +36,7 @@ fn pair_command(letter: u8, operand: u16) -> [u8; 3]
     [letter, high, low]
 }
 
-// A buffer, and where what is written of it ends.
+// A buffer, and where what is written of it ends. It is the caller's, and so no Vec.
 #[derive(Drop)]
 struct Writer<'a> {
     out: &'a mut [u8],

@@ -21,6 +21,7 @@ use plan::plan::Plan;
 use refusal::Refusal;
 
 /// The number of a place, and the fields that places use; a place's other fields are 0.
+// The place is a number, since a caller's table has one fixed form, and may hold numbers that are no place's.
 #[derive(Clone, Copy, PartialEq, Eq, Debug)]
 pub struct Record {
     pub place: u8,
@@ -159,6 +160,7 @@ fn fields_fit(plan: &Plan, rank: u16, place: Place) -> bool
 }
 
 /// What the record of a rank says, or nothing if it is spoiled: an unknown place, or a used field out of range.
+// No TryFrom: which fields are in range depends on the plan and the rank.
 pub fn parse(plan: &Plan, rank: u16, r: &Record) -> Option<Place>
     ensures { result ≡ parsed (tree_of plan.now) rank r.now }
 {

@@ -17,7 +17,8 @@ use std::alloc::Global;
 // Runs an order over a byte memory in the caller's window, with the caller's tables of records and answers, and
 // answers the lines of the run: one for each call, and one for the fault that ends a bad order.
 // Refusals are those of the job, and want of memory, which has no number.
-// Where it answers, the law holds of the order's plan and calls. The lent tables are scratch room.
+// Where it answers, the law holds of the order's plan and calls. The lent tables are scratch room, and no struct holds
+// them, since no other function takes the three.
 pub(crate) fn run_order(
     heap: Global,
     order: &[u8],

@@ -26,7 +26,7 @@ pub(crate) fn code_of_refusal(refusal: Refusal) -> u8
     refusal.number().unwrap_or(255)
 }
 
-// The first letter of an answer, or the number of a refusal.
+// The first letter of an answer, or the number of a refusal: a byte, for C.
 pub(crate) fn code_of_answer(answer: Result<Answer, Refusal>) -> u8
     ensures { result ≡ answer_code answer }
 {

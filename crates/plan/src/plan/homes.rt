@@ -73,6 +73,7 @@ impl Plan {
     }
 
     /// Whether the plan has an element of this number.
+    // Not one function with `has_rank`: what is left to share is the library's call.
     pub fn has_element(&self, element: u16) -> bool
         ensures { result ≡ has_element (tree_of self.now) element }
     {

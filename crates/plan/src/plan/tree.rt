@@ -4,7 +4,7 @@ ghost use Rattle.std.specs.Prelude.{◌≡◌, ◌≤◌, slice_index};
 ghost use Rattle.plan.specs.Shapes.{level, parent};
 ghost use Rattle.plan.specs.Trees.{above};
 
-// What stands at a place of a list, or 0 past its end.
+// What stands at a place of a list, or 0 past its end: a name for the library's call.
 pub(crate) fn at_or_zero(list: &[u16], j: usize) -> u16
     ensures { result ≡ slice_index list.now j }
 {
