@@ -19,7 +19,7 @@ use places::record::Record;
 use plan::plan::Plan;
 use refusal::Refusal;
 
-/// One call of a job.
+/// One call of a job. Plan, memory and records are passed side by side, as the calls of `lock` take them.
 pub fn run_call<M: Memory>(
     plan: &Plan,
     memory: &mut M,

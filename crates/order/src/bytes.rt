@@ -10,7 +10,7 @@ pub(crate) fn byte_at(order: &[u8], at: usize) -> u8
     order.get(at).copied().unwrap_or(0)
 }
 
-// N bytes, from a place on.
+// N bytes, from a place on: the format gives each number its place.
 pub(crate) fn bytes_at<const N: usize>(order: &[u8], at: usize) -> [u8; N]
     ensures { result ≡ bytes_from order.now at N }
 {

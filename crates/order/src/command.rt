@@ -39,7 +39,7 @@ impl Reader<'_> {
         Ok(letter)
     }
 
-    // The two bytes behind the letter as a number.
+    // The two bytes behind the letter as a number. Three are read, since the place behind the letter may be no usize.
     pub(crate) fn operand(&self) -> u16
         ensures { result ≡ pair_at self.now.order.now (self.now.at + 1) }
     {

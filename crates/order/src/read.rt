@@ -40,7 +40,7 @@ fn read_shape(order: &[u8]) -> Shape
     }
 }
 
-// The operands of `count` commands of one letter, behind which the reader then stands; or the first fault.
+// The operands of `count` commands of one letter of the format, behind which the reader then stands; or the first fault.
 fn read_operands(
     heap: Global,
     reader: &mut Reader,

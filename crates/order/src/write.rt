@@ -56,7 +56,7 @@ impl Writer<'_> {
         self.end = end;
     }
 
-    // One command with the letter for each operand.
+    // One command with the letter of the format for each operand.
     fn put_commands(&mut self, letter: u8, operands: &[u16])
         requires { self.old.end + 3 * length operands.now ≤ length self.old.out.now }
         ensures bytes { self.new.out.now

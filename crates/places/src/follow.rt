@@ -57,22 +57,12 @@ fn is_own_node(plan: &Plan, rank: u16, level: u8, word: u64) -> bool
     word == plan.node_home(rank, level)
 }
 
-// Below level 1 the rank hands on to its successor.
-fn hands_on_at(plan: &Plan, rank: u16, level: u8, successor: u64, count: u64) -> bool
-    ensures value { result ≡
-        hands_on successor count (threshold (tree_of plan.now) (element_at (tree_of plan.now) rank level)) }
+// There is a successor, and it was not handed on so often as the limit says.
+fn hands_on(successor: u64, count: u64, limit: u16) -> bool
+    ensures value { result ≡ hands_on successor count limit }
     ensures bound { T result → count < 65535 }
 {
-    successor != 0 && count < plan.threshold(plan.element_at(rank, level)) as u64
-}
-
-// At level 1 the rank hands on to its successor.
-fn hands_on_at_root(plan: &Plan, successor: u64, count: u64) -> bool
-    ensures value { result ≡
-        hands_on successor count ((tree_of plan.now).shape.writer_threshold - 1) }
-    ensures bound { T result → count < 65535 }
-{
-    successor != 0 && count < (plan.shape().writer_threshold as u64).saturating_sub(1)
+    successor != 0 && count < limit as u64
 }
 
 // What a waiting writer does at a status.
@@ -144,7 +134,7 @@ pub fn follow(plan: &Plan, rank: u16, place: Place, old: u64) -> Result<Next, Re
         Place::U1 { level } => Place::U2 { level, number: old },
         // hands on within the element, or goes up
         Place::U2 { level, number } => {
-            if hands_on_at(plan, rank, level, old, number) {
+            if hands_on(old, number, plan.threshold(plan.element_at(rank, level))) {
                 Place::U3 {
                     level,
                     home: old,
@@ -164,7 +154,7 @@ pub fn follow(plan: &Plan, rank: u16, place: Place, old: u64) -> Result<Next, Re
         Place::U4 => Place::U5 { number: old },
         // hands on at level 1, or lets readers in
         Place::U5 { number } => {
-            if hands_on_at_root(plan, old, number) {
+            if hands_on(old, number, plan.shape().writer_threshold.saturating_sub(1)) {
                 Place::U3 {
                     level: 1,
                     home: old,

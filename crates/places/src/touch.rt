@@ -32,7 +32,7 @@ enum Kind {
     Cas = 5,
 }
 
-// The operation and the offset of each place, by its number.
+// The operation and the offset of each place, by its number: a constant table, by a rule of the project.
 const TOUCHES: [(Kind, u64); 29] = [
     (Kind::Nothing, 0), // idle
     (Kind::Put, NEXT), // W1

@@ -2,7 +2,8 @@
 //! A level that is not on the rank's way from its own up to 1 has no element and no home: the answer is 0 then, as in the
 //! lock's words and in the listing, where elements and homes are numbered from 1.
 //!
-//! Each is two lines, the test and one method: a function that took the method would be no shorter to call.
+//! Each is two lines, the test and one method: a function that took the method would be no shorter to call. Plan and rank
+//! are passed side by side, since the rank may be any number and is asked about once.
 
 ghost use Rattle.std.specs.Prelude.{◌≡◌};
 ghost use Rattle.plan.specs.Trees.{

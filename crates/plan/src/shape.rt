@@ -22,7 +22,7 @@ pub struct Shape {
     /// Writers in a row before readers get a chance.
     pub writer_threshold: u16,
     /// How often an element of level 2 hands on before it lets its parent go; then of levels 3 and 4.
-    // Three fields, since an order holds exactly these three.
+    // Three fields and no array, so that a caller's literal names the level of each.
     pub level2_threshold: u16,
     pub level3_threshold: u16,
     pub level4_threshold: u16,

@@ -1,12 +1,13 @@
 //! The whole work of the program: the bytes of an order in, the lines of its run out.
 
-ghost use Rattle.std.specs.Prelude.{◌≡◌, false, is_some, IfOk, OnOk};
+ghost use Rattle.std.specs.Prelude.{◌≡◌, false, is_some, IfOk, OnOk, alloc_error};
 ghost use Rattle.refusal.specs.Numbers.{number_of};
 ghost use Rattle.order.specs.Whole.{read_whole};
 ghost use Rattle.transcript.specs.Program.{blank_window, idle_records, lines_of};
 ghost use Rattle.transcript.specs.Transcripts.{LawfulRun};
 
 use crate::run::run_order;
+use order::read::LONGEST_ORDER;
 use places::answer::Answer;
 use places::record::Record;
 use plan::shape::{MOST_ELEMENTS, MOST_RANKS};
@@ -17,11 +18,12 @@ use std::alloc::{AllocError, Global};
 const WINDOW_BYTES: usize = 40 * (MOST_RANKS + MOST_ELEMENTS);
 
 // A call has three bytes of an order.
-const MOST_CALLS: usize = 21845;
+const MOST_CALLS: usize = LONGEST_ORDER / 3;
 
 // The error behind a refusal without a number.
 fn memory_error(refusal: Refusal) -> AllocError
     requires { is_some (number_of refusal) ≡ false }
+    ensures { result ≡ alloc_error }
 {
     match refusal {
         Refusal::OutOfMemory => AllocError,

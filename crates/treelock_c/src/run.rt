@@ -24,7 +24,8 @@ use std::alloc::Global;
 // Each rank and each element of a plan has a home, of five words.
 const MOST_WORDS: usize = 5 * (MOST_RANKS + MOST_ELEMENTS);
 
-// One exchange's call; a letter that is none of a call's is refused by 14, and nothing changes.
+// One exchange's call; a letter that is none of a call's is refused by 14, and nothing changes. Plan, memory and records
+// are passed side by side, as the calls of `lock` take them.
 fn answer_one<M: Memory>(
     plan: &Plan,
     memory: &mut M,

@@ -4,6 +4,7 @@ use crate::cases::{Case, table};
 use crate::tests::runs::{
     counter_after_readers, hands_on, reader_returns, tail_after_writer, writer_enters, writer_free,
 };
+use places::place::Place;
 use plan::plan::Plan;
 use plan::questions;
 use plan::shape::Shape;
@@ -68,8 +69,14 @@ fn answer(rt: &impl Abort, heap: Global, plan: &Plan, case: Case) -> Result<(u64
             assert_eq!(rt; departed, depart);
             (arrived, arrive)
         }
-        Case::HandsOnAtLevel2(count, hands) => (hands_on(rt, plan, 11, 2, count)? as u64, hands),
-        Case::HandsOnAtLevel1(count, hands) => (hands_on(rt, plan, 14, 0, count)? as u64, hands),
+        Case::HandsOnAtLevel2(number, hands) => (
+            hands_on(rt, plan, Place::U2 { level: 2, number })? as u64,
+            hands,
+        ),
+        Case::HandsOnAtLevel1(number, hands) => (
+            hands_on(rt, plan, Place::U5 { number })? as u64,
+            hands,
+        ),
     };
     Ok(both)
 }

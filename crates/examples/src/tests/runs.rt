@@ -5,6 +5,7 @@ use law::call::Call;
 use lock::step::step;
 use memory::{ARRIVE, DEPART, ReadMemory, TAIL, WordMemory};
 use places::answer::Answer;
+use places::place::Place;
 use places::record::Record;
 use plan::plan::Plan;
 use refusal::Refusal;
@@ -22,7 +23,12 @@ fn first_step(
     wanted: Answer,
 ) -> Option<u64> {
     let mut memory = WordMemory::new(words);
-    (1..=20).find(|_| step(plan, &mut memory, records, rank) == Ok(wanted))
+    for n in 1..=20 {
+        if step(plan, &mut memory, records, rank) == Ok(wanted) {
+            return Some(n);
+        }
+    }
+    None
 }
 
 // One call, whatever it answers.
@@ -96,26 +102,14 @@ pub(crate) fn counter_after_readers(plan: &Plan, counter: u16) -> Result<(u64, u
     Ok((memory.get(home, ARRIVE)?, memory.get(home, DEPART)?))
 }
 
-/// Whether rank 1 hands on from a place with a count; its nodes at both levels have a successor.
-pub(crate) fn hands_on(
-    rt: &impl Abort,
-    plan: &Plan,
-    place: u8,
-    level: u8,
-    count: u64,
-) -> Result<bool, Fail> {
+/// Whether rank 1 hands on from a place; its nodes at both levels have a successor.
+pub(crate) fn hands_on(rt: &impl Abort, plan: &Plan, place: Place) -> Result<bool, Fail> {
     let mut words = [0; 40];
     words[0] = 2;
     words[30] = 8;
     let mut records = [Record::IDLE; 5];
-    records[0] = Record {
-        place,
-        level,
-        home: 0,
-        number: count,
-        counter: 0,
-    };
+    records[0] = Record::from(place);
     let mut memory = WordMemory::new(&mut words);
     assert_eq!(rt; step(plan, &mut memory, &mut records, 1)?, Answer::Moved);
-    Ok(records[0].place == 12)
+    Ok(matches!(Place::try_from(records[0]), Ok(Place::U3 { .. })))
 }

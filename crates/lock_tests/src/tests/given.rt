@@ -32,6 +32,15 @@ pub(crate) fn plan_a(heap: Global) -> Result<Plan, Fail> {
     Ok(Plan::new(shape, parents, rank_elements)?)
 }
 
+/// The record of an idle rank, as a literal, so that what the tests expect is their own.
+pub const IDLE: Record = Record {
+    place: 0,
+    level: 0,
+    home: 0,
+    number: 0,
+    counter: 0,
+};
+
 /// A place, the lowest level that it takes (0 where it uses none), and whether it uses a home, a number, a counter.
 #[derive(Clone, Copy)]
 pub struct Uses(pub u8, pub u8, pub bool, pub bool, pub bool);

@@ -1,6 +1,8 @@
 //! Every row of the table, in every memory: what rank 4 does at a place when it finds a word there.
 
-use crate::tests::given::{ENTERED as IN, FREE, MOVED, SPOILED as BAD, WAITING as STAYS, plan_a};
+use crate::tests::given::{
+    ENTERED as IN, FREE, IDLE, MOVED, SPOILED as BAD, WAITING as STAYS, plan_a,
+};
 use lock::step::step;
 use memory::{
     ARRIVE, ByteMemory, DEPART, JoinedMemory, Memory, NEXT, ReadMemory, STATUS, TAIL, WordMemory,
@@ -14,7 +16,7 @@ use refusal::Refusal;
 use std::process::Abort;
 use std::test::Fail;
 
-/// A record's place, level, home, number and counter.
+/// A record's place, level, home, number and counter: numbers, as they were worked out beforehand.
 type Numbers = (u8, u8, u64, u64, u16);
 
 const F: u64 = WRITE_BIT;
@@ -146,7 +148,7 @@ fn record((place, level, home, number, counter): Numbers) -> Record {
 
 // The record of rank 4, among idle ones.
 fn of_rank_4(numbers: Numbers) -> [Record; 5] {
-    let mut records = [Record::IDLE; 5];
+    let mut records = [IDLE; 5];
     records[3] = record(numbers);
     records
 }

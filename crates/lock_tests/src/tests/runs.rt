@@ -1,6 +1,6 @@
 //! The same run over every memory: a lone writer comes in, two writers queue up behind it, a reader waits.
 
-use crate::tests::given::{ASKED, ENTERED, MOVED, WAITING, plan_a};
+use crate::tests::given::{ASKED, ENTERED, IDLE, MOVED, WAITING, plan_a};
 use lock::ask::{ask_to_read, ask_to_write};
 use lock::layout::layout;
 use lock::occupied::is_occupied;
@@ -97,7 +97,7 @@ fn play<M: Memory>(
 
 // The whole run in a memory of any words.
 fn run<M: Memory>(rt: &impl Abort, plan: &Plan, memory: &mut M) -> Result<(), Fail> {
-    let mut records = [Record::IDLE; 5];
+    let mut records = [IDLE; 5];
     assert_eq!(rt; layout(plan, memory, &mut records), Ok(()));
     assert_eq!(rt; is_occupied(plan, &records), Ok(false));
     play(rt, plan, memory, &mut records, &COMING);

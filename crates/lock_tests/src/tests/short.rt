@@ -1,6 +1,6 @@
 //! Tables and memories that are too short, and a layout in ones that are longer than needed.
 
-use crate::tests::given::{SPOILED, all_refuse, plan_a};
+use crate::tests::given::{IDLE, SPOILED, all_refuse, plan_a};
 use lock::ask::ask_to_write;
 use lock::layout::layout;
 use lock::occupied::is_occupied;
@@ -73,10 +73,7 @@ fn a_word_too_few(rt: HostRuntime) -> Result<(), Fail> {
 #[test]
 fn a_layout_clears_the_lock_and_nothing_beyond(rt: HostRuntime) -> Result<(), Fail> {
     let plan = plan_a(rt.alloc())?;
-    let reader = Record {
-        place: 28,
-        ..Record::IDLE
-    };
+    let reader = Record { place: 28, ..IDLE };
     let mut records = [ODD, reader, ODD, ODD, ODD, reader, ODD];
     let mut table = [7u64; 47];
     assert_eq!(rt; is_occupied(&plan, &records), Ok(true));
@@ -84,18 +81,7 @@ fn a_layout_clears_the_lock_and_nothing_beyond(rt: HostRuntime) -> Result<(), Fa
         layout(&plan, &mut WordMemory::new(&mut table), &mut records),
         Ok(())
     );
-    assert_eq!(rt;
-        records,
-        [
-            Record::IDLE,
-            Record::IDLE,
-            Record::IDLE,
-            Record::IDLE,
-            Record::IDLE,
-            reader,
-            ODD
-        ]
-    );
+    assert_eq!(rt; records, [IDLE, IDLE, IDLE, IDLE, IDLE, reader, ODD]);
     // rank 6 is none of the plan's
     assert_eq!(rt; is_occupied(&plan, &records), Ok(false));
     for (at, word) in table.iter().enumerate() {

@@ -1,6 +1,6 @@
 //! Spoiled records of every kind, and fields that a place does not use.
 
-use crate::tests::given::{USES, Uses, all_refuse, highest, lowest, plan_a};
+use crate::tests::given::{IDLE, USES, Uses, all_refuse, highest, lowest, plan_a};
 use lock::ask::ask_to_read;
 use lock::step::step;
 use memory::WordMemory;
@@ -14,13 +14,7 @@ use std::test::Fail;
 // Every call refuses the record of rank 2 by 7, and nothing changes.
 fn is_refused(rt: &impl Abort, plan: &Plan, spoiled: Record) {
     let mut table = [7u64; 40];
-    let before = [
-        Record::IDLE,
-        spoiled,
-        Record::IDLE,
-        Record::IDLE,
-        Record::IDLE,
-    ];
+    let before = [IDLE, spoiled, IDLE, IDLE, IDLE];
     let mut records = before;
     all_refuse(
         rt,
@@ -38,18 +32,11 @@ fn is_refused(rt: &impl Abort, plan: &Plan, spoiled: Record) {
 fn spoiled_records_are_refused(rt: HostRuntime) -> Result<(), Fail> {
     let plan = plan_a(rt.alloc())?;
     for place in 29..=255u8 {
-        is_refused(
-            &rt,
-            &plan,
-            Record {
-                place,
-                ..Record::IDLE
-            },
-        );
+        is_refused(&rt, &plan, Record { place, ..IDLE });
     }
     for uses in USES {
-        let low = lowest(uses, Record::IDLE);
-        let high = highest(uses, Record::IDLE);
+        let low = lowest(uses, IDLE);
+        let high = highest(uses, IDLE);
         let Uses(_, lowest_level, home, _, counter) = uses;
         if lowest_level > 0 {
             is_refused(
@@ -109,13 +96,8 @@ fn are_alike(rt: &impl Abort, plan: &Plan, clean: Record, noisy: Record) -> Resu
 fn unused_fields_are_not_read(rt: HostRuntime) -> Result<(), Fail> {
     let plan = plan_a(rt.alloc())?;
     for uses in USES {
-        are_alike(&rt, &plan, lowest(uses, Record::IDLE), lowest(uses, NOISE))?;
-        are_alike(
-            &rt,
-            &plan,
-            highest(uses, Record::IDLE),
-            highest(uses, NOISE),
-        )?;
+        are_alike(&rt, &plan, lowest(uses, IDLE), lowest(uses, NOISE))?;
+        are_alike(&rt, &plan, highest(uses, IDLE), highest(uses, NOISE))?;
     }
     Ok(())
 }

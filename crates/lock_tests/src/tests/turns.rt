@@ -1,6 +1,6 @@
 //! Calls out of turn, unknown ranks, and which refusal comes first.
 
-use crate::tests::given::{ASKED, USES, all_refuse, highest, plan_a};
+use crate::tests::given::{ASKED, IDLE, USES, all_refuse, highest, plan_a};
 use lock::ask::{ask_to_read, ask_to_write};
 use lock::step::step;
 use memory::WordMemory;
@@ -25,7 +25,7 @@ fn calls_out_of_turn(rt: HostRuntime) -> Result<(), Fail> {
     let plan = plan_a(rt.alloc())?;
     for uses in USES {
         let place = uses.0;
-        let before = [highest(uses, Record::IDLE); 5];
+        let before = [highest(uses, IDLE); 5];
         let mut records = before;
         let mut table = [0u64; 40];
         let stepped = step(&plan, &mut WordMemory::new(&mut table), &mut records, 2);
@@ -50,10 +50,7 @@ fn calls_out_of_turn(rt: HostRuntime) -> Result<(), Fail> {
 #[test]
 fn unknown_ranks_and_the_order_of_refusals(rt: HostRuntime) -> Result<(), Fail> {
     let plan = plan_a(rt.alloc())?;
-    let spoiled = Record {
-        place: 1,
-        ..Record::IDLE
-    };
+    let spoiled = Record { place: 1, ..IDLE };
     let before = [spoiled; 6];
     let mut records = before;
     let mut table = [7u64; 40];

@@ -60,7 +60,7 @@ impl<'a> Parts<'a> {
             && self.rank_elements.len() == self.shape.ranks as usize
     }
 
-    // The parent of element j + 2.
+    // The parent of element j + 2. By index, since which parents are lawful depends on the place.
     fn parent_fits(&self, j: usize) -> bool
         requires { j < length self.now.parents.now }
         ensures { result ≡ parent_ok self.now.shape.now self.now.parents.now j }

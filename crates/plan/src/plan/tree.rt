@@ -18,7 +18,7 @@ fn parent_in_tree(parents: &[u16], k: usize) -> u16
     at_or_zero(parents, k.saturating_sub(2))
 }
 
-// The level of element k: 1 to 4, or 5 where it lies deeper.
+// The level of element k: 1 to 4, or 5 where it lies deeper. Elements are named by number, as orders and callers do.
 pub(crate) fn level_in_tree(parents: &[u16], k: usize) -> u8
     ensures value { result ≡ level parents.now k }
     ensures bound { result ≤ 5 }
