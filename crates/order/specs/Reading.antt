@@ -1,6 +1,6 @@
 -- What the plan's part of an order says: a plan and the offset behind it, or a fault.
-use Rattle.std.specs.Prelude.{◌≡◌, ℕ, zero, suc, ◌+◌, ◌-◌, ◌*◌, true, cond, List, [], ◌∷◌, ◌++◌, length, is_some, Ok, Err, Result, nat_lt, slice_index}
-use Rattle.refusal.specs.Numbers.{number_of}
+use Rattle.std.specs.Prelude.{◌≡◌, ℕ, zero, suc, ◌+◌, ◌-◌, ◌*◌, cond, List, [], ◌∷◌, ◌++◌, length, Ok, Err, Result, nat_lt, slice_index}
+use Rattle.refusal.specs.Numbers.{IsOnSheet}
 use Rattle.refusal.specs.declared.Refusal.{Refusal}
 use Rattle.refusal.specs.declared.Refusal.TheVariants.{OrderTooLong}
 use Rattle.plan.specs.Trees.{Tree, tree, tree_of, planned}
@@ -77,4 +77,4 @@ reading_of x = record { plan = tree_of x.plan; end = x.end }
 -- the answer is the defined one; only want of memory, which has no number, can stand in its place
 abbrev pub Answers : Result PlanRead Fault → Result Reading Fault → Type 0
 Answers (Ok x) r = r ≡ Ok (reading_of x)
-Answers (Err f) r = is_some (number_of f.refusal) ≡ true → r ≡ Err f
+Answers (Err f) r = IsOnSheet f.refusal → r ≡ Err f

@@ -1,6 +1,6 @@
 -- What a whole order says: a plan and a script of calls, or a fault before they begin.
-use Rattle.std.specs.Prelude.{◌≡◌, ℕ, true, List, is_some, Ok, Err, vec_items, Result}
-use Rattle.refusal.specs.Numbers.{number_of}
+use Rattle.std.specs.Prelude.{◌≡◌, ℕ, List, Ok, Err, vec_items, Result}
+use Rattle.refusal.specs.Numbers.{IsOnSheet}
 use Rattle.plan.specs.Trees.{Tree, tree_of}
 use Rattle.order.specs.Calls.{Script, script, script_at}
 use Rattle.order.specs.Reading.{Reading, reading}
@@ -24,4 +24,4 @@ whole_of x = record { plan = tree_of x.plan; script = script (vec_items x.calls)
 -- the answer is the defined one; only want of memory, which has no number, can stand in its place
 abbrev pub AnswersWhole : Result OrderRead Fault → Result Whole Fault → Type 0
 AnswersWhole (Ok x) r = r ≡ Ok (whole_of x)
-AnswersWhole (Err f) r = is_some (number_of f.refusal) ≡ true → r ≡ Err f
+AnswersWhole (Err f) r = IsOnSheet f.refusal → r ≡ Err f

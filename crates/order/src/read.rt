@@ -1,7 +1,7 @@
 //! The reader of the plan's part of an order, H to G.
 
-ghost use Rattle.std.specs.Prelude.{◌≡◌, ◌+◌, ◌*◌, ◌≤◌, true, length, is_some, IfOk, Ok, Err, MatchResult};
-ghost use Rattle.refusal.specs.Numbers.{number_of};
+ghost use Rattle.std.specs.Prelude.{◌≡◌, ◌+◌, ◌*◌, ◌≤◌, length, IfOk, Ok, Err, MatchResult};
+ghost use Rattle.refusal.specs.Numbers.{IsOnSheet};
 ghost use Rattle.order.specs.Commands.{run};
 ghost use Rattle.order.specs.Reading.{Answers, operands, reading, shape_in};
 
@@ -51,7 +51,7 @@ fn read_operands(
         (λ v. (run reader.old.order.now letter reader.old.at count ≡ Ok tt)
         × (v.items ≡ operands reader.old.order.now reader.old.at count)
         × (reader.new.at ≡ reader.old.at + 3 * count))
-        (λ f. is_some (number_of f.refusal) ≡ true
+        (λ f. IsOnSheet f.refusal
         → run reader.old.order.now letter reader.old.at count ≡ Err f) }
     ensures order { reader.new.order.now ≡ reader.old.order.now }
 {

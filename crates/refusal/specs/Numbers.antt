@@ -1,5 +1,5 @@
 -- The numbers of the refusal sheet, stated once.
-use Rattle.std.specs.Prelude.{ℕ, Some, None, Option}
+use Rattle.std.specs.Prelude.{◌≡◌, ℕ, true, Some, None, Option, is_some}
 use Rattle.refusal.specs.declared.Refusal.{Refusal}
 use Rattle.refusal.specs.declared.Refusal.TheVariants.{PlanSize, PlanThreshold, PlanParent, PlanRank, TooShort}
 use Rattle.refusal.specs.declared.Refusal.TheVariants.{UnknownRank, Spoiled, NotIdle, NotUnderWay, NotIn}
@@ -25,3 +25,7 @@ number_of Misplaced = Some 14
 number_of BufferTooSmall = Some 15
 number_of OrderTooLong = Some 16
 number_of OutOfMemory = None
+
+-- a refusal that is on the sheet
+abbrev pub IsOnSheet : Refusal → Type 0
+IsOnSheet e = is_some (number_of e) ≡ true

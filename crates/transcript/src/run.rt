@@ -1,7 +1,7 @@
 //! The run of an order: from its bytes to the lines that tell it.
 
-ghost use Rattle.std.specs.Prelude.{◌≡◌, true, is_some, Ok, Err, MatchResult, OnOk};
-ghost use Rattle.refusal.specs.Numbers.{number_of};
+ghost use Rattle.std.specs.Prelude.{◌≡◌, Ok, Err, MatchResult, OnOk};
+ghost use Rattle.refusal.specs.Numbers.{IsOnSheet};
 ghost use Rattle.order.specs.Whole.{read_whole};
 ghost use Rattle.transcript.specs.Transcripts.{LawfulRun, transcript};
 
@@ -29,7 +29,7 @@ pub(crate) fn run_order(
     ensures value { MatchResult result
         (λ v. transcript order.now window.old records.old answers.old
         ≡ Ok v.items)
-        (λ e. is_some (number_of e) ≡ true
+        (λ e. IsOnSheet e
         → transcript order.now window.old records.old answers.old
         ≡ Err e) }
     ensures law { OnOk result (LawfulRun (read_whole order.now) window.old

@@ -1,7 +1,7 @@
 //! A job for a caller in C: its plan as the front part of an order, its calls and their answers as one table.
 
-ghost use Rattle.std.specs.Prelude.{◌≡◌, ◌≤◌, true, length, is_some, Ok, Err, MatchResult, OnOk};
-ghost use Rattle.refusal.specs.Numbers.{number_of};
+ghost use Rattle.std.specs.Prelude.{◌≡◌, ◌≤◌, Ok, Err, MatchResult, OnOk};
+ghost use Rattle.refusal.specs.Numbers.{IsOnSheet};
 ghost use Rattle.plan.specs.Trees.{tree_of};
 ghost use Rattle.law.specs.Calls.{ran, state};
 ghost use Rattle.order.specs.Reading.{reading};
@@ -77,7 +77,7 @@ fn run(heap: Global, plan: &[u8], table: &mut [Exchange]) -> Result<(), Refusal>
     ensures value { MatchResult result
         (λ _. outcome plan.now table.old ≡ Ok table.new)
         (λ e. (table.new ≡ table.old)
-        × (is_some (number_of e) ≡ true → outcome plan.now table.old ≡ Err e)) }
+        × (IsOnSheet e → outcome plan.now table.old ≡ Err e)) }
     ensures law { OnOk result (Lawful (reading plan.now) table.old) }
 {
     let read = read_plan(heap, plan).map_err(|fault| fault.refusal)?;
