@@ -4,6 +4,7 @@ ghost use Rattle.std.specs.Prelude.{◌≡◌, ◌<◌};
 ghost use Rattle.law.specs.CallParts.{letter, rank};
 
 /// One call of a job.
+// Data and no closure: calls stand in orders and in tables.
 #[derive(Clone, Copy)]
 pub enum Call {
     AskWrite { rank: u16 },

@@ -56,6 +56,7 @@ fn level_above(level: u8, distance: u16) -> u8
 }
 
 /// The line of a rank.
+// Plan and rank side by side, as in `places`.
 pub fn rank_line(heap: Global, plan: &Plan, rank: u16) -> Result<String, AllocError>
     ensures { IfOk result (λ s. string_bytes s ≡ rank_line (tree_of plan.now) rank) }
 {
@@ -74,7 +75,8 @@ pub fn rank_line(heap: Global, plan: &Plan, rank: u16) -> Result<String, AllocEr
 }
 
 /// The line of a bad order.
-// The number as it is printed: any number has a line, and a Refusal in its place would ask more of callers.
+// The number as it is printed: any number has a line, and a Refusal in its place would ask more of callers. Not one
+// function with the line of a run: that has 24 bytes and no heap.
 pub fn bad_line(heap: Global, number: u8, offset: usize) -> Result<String, AllocError>
     ensures { IfOk result (λ s. string_bytes s ≡ bad_line number offset) }
 {

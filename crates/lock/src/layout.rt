@@ -32,7 +32,7 @@ fn clear_homes<M: Memory>(memory: &mut M, last: u64)
     }
 }
 
-// The first records idle.
+// The first records idle. How many is told beside them, since a caller's table may be longer.
 fn idle_all(records: &mut [Record], n: usize)
     requires { n ≤ length records.old }
     ensures { records.new ≡ idled records.old n }

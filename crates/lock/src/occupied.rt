@@ -16,7 +16,7 @@ fn says_in(r: &Record) -> bool
     matches!(Place::try_from(*r), Ok(Place::Writer | Place::Reader))
 }
 
-// Some of the first records says so.
+// Some of the first records says so. How many is told beside them, since a caller's table may be longer.
 fn some_in(records: &[Record], n: usize) -> bool
     requires { n ≤ length records.now }
     ensures { result ≡ any_in records.now n }

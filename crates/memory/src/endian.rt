@@ -1,4 +1,5 @@
-//! A word among bytes: eight of them, the most significant first.
+//! A word among bytes: eight of them, the most significant first. A place is told beside the bytes, since one word of
+//! them is meant.
 
 ghost use Rattle.std.specs.Prelude.{◌≡◌, ◌+◌, ◌≤◌, length, take, drop};
 ghost use Rattle.memory.specs.Layout.{be_word};

@@ -64,8 +64,9 @@ impl<P: ReadMemory, Q: ReadMemory> ReadMemory for JoinedMemory<P, Q> {
 }
 
 impl<P: Memory, Q: Memory> JoinedMemory<P, Q> {
-    // The part that a home lies in performs the operation, by its own method of that name. It is inlined,
-    // so that each method below goes straight to its parts' method.
+    // The part that a home lies in performs the operation, by its own method of that name. By `Operation`,
+    // since otherwise the match would stand once for each; inlined, so that each method below goes straight
+    // to its parts' method.
     #[inline(always)]
     fn delegate(&mut self, home: u64, offset: u64, operation: Operation) -> Result<u64, Refusal>
         ensures value { result ≡ answered (words_of P.ReadMemory.words Q.ReadMemory.words self.old)

@@ -24,7 +24,7 @@ pub enum Operation {
 
 /// Performs an operation at a home and an offset of any memory.
 ///
-/// It answers what the operation answers; a put, which answers no word, gives 0. What get answers at
+/// It answers what the operation answers; a put, which answers no word, gives 0, by the definition. What get answers at
 /// every other home and offset stays as it was, and so does what else there is of the memory.
 #[inline(always)]
 pub fn perform<M: Memory>(

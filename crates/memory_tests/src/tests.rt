@@ -59,7 +59,7 @@ const SIZES: [(usize, usize, u64); 6] = [
     (20_485, 163_880, MAX_HOMES),
 ];
 
-/// The memory answers the rows.
+/// The memory answers the rows; called once for each type of memory.
 fn run<M: Memory>(rt: &impl Abort, memory: &mut M) {
     for Row(home, offset, operation, answer) in ROWS {
         assert_eq!(rt; perform(memory, home, offset, operation), answer);

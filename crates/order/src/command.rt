@@ -60,6 +60,7 @@ impl Reader<'_> {
 }
 
 /// Whether the command at a place is the one that is due: a cut command is refused first, then a misplaced one.
+// A place and a letter of the format: callers have no reader.
 pub fn check_command(order: &[u8], at: usize, due: char) -> Result<(), Fault>
     ensures { result ≡ checked order.now at due }
 {

@@ -3,7 +3,8 @@
 //! it and asks what follows.
 //!
 //! A plan and a rank are passed side by side, and no struct holds the two: each public function is given both, so a
-//! struct would be made at every entry and opened again at every question, which are all of the plan's own methods.
+//! struct would be made at every entry and opened again at every question, which are all of the plan's own methods. So
+//! are a plan and a table of records, which `lock` passes on.
 #![tactic(auto)]
 
 pub mod access;

@@ -226,6 +226,7 @@ impl From<Place> for Record {
 
 /// The record of a place, with 0 in the fields that it does not use.
 /// It is parsed as the same place again, for every rank at which its fields are in range.
+// Beside `From`, since its contract says too that the record reads back.
 pub fn record_of(place: Place) -> Record
     ensures value { result ≡ recorded place }
     ensures back { (t : Tree) (p : ℕ) → ReadsBack t p place }

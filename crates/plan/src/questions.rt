@@ -1,6 +1,6 @@
 //! Questions about a rank of any number: an unknown rank is refused by 6.
-//! A level that is not on the rank's way from its own up to 1 has no element and no home: the answer is 0 then, as in the
-//! lock's words and in the listing, where elements and homes are numbered from 1.
+//! A level that is not on the rank's way from its own up to 1 has no element and no home: the answer is 0 then, as it is
+//! from the plan's own methods; an `Option` here would be a second form of none.
 //!
 //! Each is two lines, the test and one method: a function that took the method would be no shorter to call. Plan and rank
 //! are passed side by side, since the rank may be any number and is asked about once.

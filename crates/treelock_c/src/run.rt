@@ -94,6 +94,7 @@ fn run(heap: Global, plan: &[u8], table: &mut [Exchange]) -> Result<(), Refusal>
 /// exchange gets its answer; a letter that is none of a call's is refused by 14 in its place. Answers 0, or the number
 /// by which the plan is refused, or 255 if the machine has no memory left; if it is not 0, the table is as it was.
 /// The law holds of the plan and the calls.
+// A number, since C has no Result.
 #[unsafe(no_mangle)]
 pub extern "C" fn treelock_run(heap: Global, plan: &[u8], table: &mut [Exchange]) -> u8
     ensures value { Told result (outcome plan.now table.old)

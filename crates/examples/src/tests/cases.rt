@@ -13,7 +13,8 @@ use std::alloc::{AllocError, Global};
 use std::process::Abort;
 use std::test::Fail;
 
-// Plan A with another number of ranks, another parent of element 2 or another threshold of level 2.
+// Plan A with another number of ranks, another parent of element 2 or another threshold of level 2; written out here, as
+// in the other files.
 fn changed(
     heap: Global,
     ranks: u16,

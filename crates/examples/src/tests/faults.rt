@@ -5,7 +5,7 @@ use order::write::write_plan;
 use std::alloc::Global;
 use std::test::Fail;
 
-// Plan A as an order: H at 0, E at 20 and 23, K at 26, 29, .., 38, G at 41.
+// Plan A as an order, to be read beside the faults: H at 0, E at 20 and 23, K at 26, 29, .., 38, G at 41.
 const PLAN_A: [u8; 42] =
     *b"H\x00\x05\x00\x03\x02\x00\x02\x00\x00\x00\x02\x00\x02\x00\x01\x00\x00\x00\x00\
 E\x00\x01E\x00\x01K\x00\x02K\x00\x02K\x00\x02K\x00\x03K\x00\x03G";

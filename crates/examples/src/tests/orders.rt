@@ -3,7 +3,8 @@
 use std::test::Fail;
 use transcript::program::transcribe;
 
-// Plan A, then readers 4 and 5, writers 1 and 2 that queue, a hand-over between them, and reader 3.
+// Plan A, then readers 4 and 5, writers 1 and 2 that queue, a hand-over between them, and reader 3; written out here, to
+// be read beside its lines.
 static LARGER: [u8; 228] =
     *b"H\x00\x05\x00\x03\x02\x00\x02\x00\x00\x00\x02\x00\x02\x00\x01\x00\x00\x00\x00\
 E\x00\x01E\x00\x01K\x00\x02K\x00\x02K\x00\x02K\x00\x03K\x00\x03G\

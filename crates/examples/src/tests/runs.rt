@@ -71,7 +71,7 @@ fn read_again(plan: &Plan, words: &mut [u64], records: &mut [Record]) -> Option<
     first_step(plan, words, records, 1, Answer::Entered)
 }
 
-/// The step at which a lone writer enters.
+/// The step at which a lone writer enters. A name for each kind of row of the table, here and below.
 pub(crate) fn writer_enters(plan: &Plan, rank: u16) -> Option<u64> {
     write(plan, &mut [0; 40], &mut [Record::IDLE; 5], rank)
 }

@@ -15,6 +15,7 @@ use std::test::Fail;
 
 /// Ranks 1 to 3 on element 2, ranks 4 and 5 on element 3, both below element 1; counter spacing 2, reader and
 /// writer threshold 2, level 2's threshold 1. So there are 8 homes, and counters 0 to 2 at homes 1, 3 and 5.
+/// Written out here, to be read beside the tests.
 pub(crate) fn plan_a(heap: Global) -> Result<Plan, Fail> {
     let shape = Shape {
         ranks: 5,
@@ -42,6 +43,7 @@ pub const IDLE: Record = Record {
 };
 
 /// A place, the lowest level that it takes (0 where it uses none), and whether it uses a home, a number, a counter.
+/// Numbers and flags, as the table was worked out.
 #[derive(Clone, Copy)]
 pub struct Uses(pub u8, pub u8, pub bool, pub bool, pub bool);
 
@@ -95,7 +97,7 @@ pub(crate) fn lowest(uses: Uses, other: Record) -> Record {
     }
 }
 
-/// The highest values of the used fields, and those of `other` in the rest.
+/// The highest values of the used fields, and those of `other` in the rest. All that `lowest` shares are the fields.
 pub(crate) fn highest(uses: Uses, other: Record) -> Record {
     let Uses(place, lowest_level, home, number, counter) = uses;
     Record {
@@ -107,7 +109,7 @@ pub(crate) fn highest(uses: Uses, other: Record) -> Record {
     }
 }
 
-/// Each call of each of the ranks is refused so.
+/// Each call of each of the ranks is refused so. Plan, memory and records side by side, as the calls take them.
 pub(crate) fn all_refuse<M: Memory>(
     rt: &impl Abort,
     plan: &Plan,

@@ -165,7 +165,7 @@ fn gives<M: Memory>(rt: &impl Abort, plan: &Plan, memory: &mut M, row: Row) -> R
     Ok(())
 }
 
-// The memory, of 8 homes, gives every row.
+// The memory, of 8 homes, gives every row; called once for each type of memory.
 fn run<M: Memory>(rt: &impl Abort, plan: &Plan, memory: &mut M) -> Result<(), Fail> {
     for &row in &ROWS {
         gives(rt, plan, memory, row)?;

@@ -17,7 +17,8 @@ use refusal::Refusal;
 use std::process::Abort;
 use std::test::Fail;
 
-// A constant table names its calls by an enum: closures would have to be made for each memory that it is played in.
+// A constant table names its calls by an enum: closures would have to be made for each memory that it is played in. The
+// enum is its own, since `law` and `job` are not among these tests' crates.
 #[derive(Clone, Copy)]
 enum Call {
     Write,
@@ -52,7 +53,7 @@ const WAITERS: [Turn; 12] = [
     Turn(Call::Step, 4, 3, WAITING),
 ];
 
-/// A rank, and what its next step touches then: operation, home, offset.
+/// A rank, and what its next step touches then: operation, home, offset, numbers that were worked out beforehand.
 const TOUCHES: [(u16, (u8, u64, u64)); 5] = [
     (1, (0, 0, 0)),
     (2, (1, 2, STATUS)),
@@ -75,7 +76,7 @@ const WORDS: [(u64, u64, u64); 10] = [
     (7, TAIL, 3),
 ];
 
-// The calls answer what the table says.
+// The calls answer what the table says. Plan, memory and records side by side, as the calls take them.
 fn play<M: Memory>(
     rt: &impl Abort,
     plan: &Plan,
@@ -95,7 +96,7 @@ fn play<M: Memory>(
     }
 }
 
-// The whole run in a memory of any words.
+// The whole run in a memory of any words; called once for each type of memory.
 fn run<M: Memory>(rt: &impl Abort, plan: &Plan, memory: &mut M) -> Result<(), Fail> {
     let mut records = [IDLE; 5];
     assert_eq!(rt; layout(plan, memory, &mut records), Ok(()));

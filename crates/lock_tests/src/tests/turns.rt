@@ -1,4 +1,4 @@
-//! Calls out of turn, unknown ranks, and which refusal comes first.
+//! Calls out of turn, unknown ranks, and which refusal comes first. Places by number, as the table of uses has them.
 
 use crate::tests::given::{ASKED, IDLE, USES, all_refuse, highest, plan_a};
 use lock::ask::{ask_to_read, ask_to_write};

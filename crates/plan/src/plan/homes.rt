@@ -1,6 +1,7 @@
 //! Where everything lives. These methods are total: the lock asks them of ranks that it has checked.
 //! For a number that names nothing they answer what the definition says; `questions` refuses it. Elements and levels are
-//! numbered from 1, so 0 stands where there is none.
+//! numbered from 1, so 0 stands where there is none: homes are compared with the memory's words, which say it so, and
+//! with an `Option` in some answers there would be two forms of none.
 
 ghost use Rattle.std.specs.Prelude.{◌≡◌, ◌<◌, ◌≤◌, T, length, nat_lt};
 ghost use Rattle.plan.specs.Trees.{
@@ -28,7 +29,7 @@ use crate::plan::Plan;
 use crate::plan::tree::{at_or_zero, climb, level_in_tree};
 use crate::shape::Shape;
 
-// The threshold of a level, 2 to 4, and 0 at any other. A `match`, since the thresholds are fields.
+// The threshold of a level, 2 to 4, and 0 at any other, as a plan holds it. A `match`, since the thresholds are fields.
 fn threshold_of_level(shape: &Shape, level: u8) -> u16
     ensures { result ≡ level_threshold shape.now level }
 {

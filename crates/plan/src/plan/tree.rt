@@ -1,4 +1,5 @@
-//! The tree of elements as a list of parents: the way up, and levels. Total: 0 stands where there is none.
+//! The tree of elements as a list of parents: the way up, and levels. Total: 0 stands where there is none. Each function
+//! asks one thing of the list, for the element whose number is told beside it.
 
 ghost use Rattle.std.specs.Prelude.{◌≡◌, ◌≤◌, slice_index};
 ghost use Rattle.plan.specs.Shapes.{level, parent};
