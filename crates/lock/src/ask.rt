@@ -6,7 +6,7 @@ ghost use Rattle.lock.specs.Turns.{asked, asked_to_read, asked_to_write};
 
 use places::answer::Answer;
 use places::place::{Place, Standing};
-use places::record::{Record, place_of};
+use places::record::{Record, place_of, record_of};
 use plan::plan::Plan;
 use refusal::Refusal;
 
@@ -19,7 +19,7 @@ fn ask(plan: &Plan, records: &mut [Record], rank: u16, to: Place) -> Result<Answ
     if place_of(plan, records, rank)?.standing() != Standing::Resting {
         return Err(Refusal::NotIdle);
     }
-    records[rank as usize - 1] = Record::from(to);
+    records[rank as usize - 1] = record_of(to);
     Ok(Answer::Asked)
 }
 

@@ -6,7 +6,8 @@ ghost use Rattle.lock.specs.Layouts.{cleared, home_cleared, idled, laid_answer, 
 
 use crate::room::has_room;
 use memory::{HOME_WORDS, Memory};
-use places::record::Record;
+use places::place::Place;
+use places::record::{Record, record_of};
 use plan::plan::Plan;
 use refusal::Refusal;
 
@@ -37,11 +38,13 @@ fn idle_all(records: &mut [Record], n: usize)
     requires { n ≤ length records.old }
     ensures { records.new ≡ idled records.old n }
 {
-    records[..n].fill(Record::IDLE);
+    records[..n].fill(record_of(Place::Idle));
 }
 
 /// Lays a lock out: zeros in its words and nothing beyond, a record idle for each rank and no further one.
 /// Too few records or homes are refused by 5.
+// Inlined, so that a caller's memory is asked for its homes once, and not at each word.
+#[inline]
 pub fn layout<M: Memory>(plan: &Plan, memory: &mut M, records: &mut [Record]) -> Result<(), Refusal>
     ensures value { result ≡ laid_answer (tree_of plan.now)
         (M.ReadMemory.words memory.old) records.old }

@@ -6,7 +6,7 @@ ghost use Rattle.lock.specs.Turns.{exit_of, left};
 
 use places::answer::Answer;
 use places::place::{Place, Standing};
-use places::record::{Record, place_of};
+use places::record::{Record, place_of, record_of};
 use plan::plan::Plan;
 use refusal::Refusal;
 
@@ -34,6 +34,6 @@ pub fn leave(plan: &Plan, records: &mut [Record], rank: u16) -> Result<Answer, R
         Standing::Writing => exit_place(plan, rank),
         Standing::Reading => Place::R7,
     };
-    records[rank as usize - 1] = Record::from(to);
+    records[rank as usize - 1] = record_of(to);
     Ok(Answer::Leaving)
 }

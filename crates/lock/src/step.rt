@@ -12,7 +12,7 @@ use places::access::next_access;
 use places::answer::Answer;
 use places::follow::{Next, follow};
 use places::place::Place;
-use places::record::{Record, place_of};
+use places::record::{Record, place_of, record_of};
 use plan::plan::Plan;
 use refusal::Refusal;
 
@@ -55,6 +55,6 @@ pub fn step<M: Memory>(
     }
     let place = place_of(plan, records, rank)?;
     let next = row(plan, memory, rank, place)?;
-    records[rank as usize - 1] = Record::from(next.place);
+    records[rank as usize - 1] = record_of(next.place);
     Ok(next.answer)
 }

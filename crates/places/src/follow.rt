@@ -132,9 +132,9 @@ pub fn follow(plan: &Plan, rank: u16, place: Place, old: u64) -> Result<Next, Re
             }
         }
         Place::U1 { level } => Place::U2 { level, number: old },
-        // hands on within the element, or goes up
+        // hands on within the element, or goes up; only where someone waits is the threshold looked up
         Place::U2 { level, number } => {
-            if hands_on(old, number, plan.threshold(plan.element_at(rank, level))) {
+            if old != 0 && hands_on(old, number, plan.threshold(plan.element_at(rank, level))) {
                 Place::U3 {
                     level,
                     home: old,

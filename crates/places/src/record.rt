@@ -96,11 +96,11 @@ impl TryFrom<Record> for Place {
     }
 }
 
-// A level from `low` to the rank's own.
+// A level from `low` to the rank's own, which is looked up only where the level is not too low already.
 fn level_is_in(plan: &Plan, rank: u16, low: u8, level: u8) -> bool
     ensures { result ≡ within low (own_level (tree_of plan.now) rank) level }
 {
-    (low..=plan.own_level(rank)).contains(&level)
+    low <= level && level <= plan.own_level(rank)
 }
 
 // A home of the lock.
@@ -243,6 +243,8 @@ pub fn has_records(plan: &Plan, records: &[Record]) -> bool
 
 /// The place at which a rank stands, by its record. Too few records are refused by 5, an unknown rank by 6, and a
 /// spoiled record by 7.
+// Inlined, so that a refused call costs no more than its tests.
+#[inline(always)]
 pub fn place_of(plan: &Plan, records: &[Record], rank: u16) -> Result<Place, Refusal>
     ensures value { result ≡ place_at (tree_of plan.now) records.now rank }
     ensures inside { IfOk result (λ _. (1 ≤ rank) × (rank ≤ length records.now)) }

@@ -7,7 +7,7 @@ ghost use Rattle.places.specs.Touches.{touched, touching};
 
 use crate::access::next_access;
 use crate::place::Place;
-use crate::record::{Record, place_of};
+use crate::record::{Record, place_of, record_of};
 use memory::{ARRIVE, DEPART, NEXT, STATUS, TAIL};
 use plan::plan::Plan;
 use refusal::Refusal;
@@ -76,7 +76,7 @@ fn home_at(plan: &Plan, rank: u16, place: Place) -> u64
 fn touch_at(plan: &Plan, rank: u16, place: Place) -> Touch
     ensures { result ≡ touching (access_of (tree_of plan.now) rank place) }
 {
-    let (kind, offset) = TOUCHES[Record::from(place).place as usize];
+    let (kind, offset) = TOUCHES[record_of(place).place as usize];
     Touch {
         operation: kind as u8,
         home: home_at(plan, rank, place),

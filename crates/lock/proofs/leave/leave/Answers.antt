@@ -47,7 +47,7 @@ returns c =
           record {
             value = sym (ap (λ (x : Turn). x.answer) f);
             records =
-                ap (λ (r : Record). set rs (p - 1) r) (c.from.ensures ∙ ap recorded to)
+                ap (λ (r : Record). set rs (p - 1) r) (c.record_of.ensures.value ∙ ap recorded to)
                 ∙ sym (ap (λ (x : Turn). x.records) f);
           }
       | in-Reading w ↦
@@ -56,7 +56,7 @@ returns c =
           record {
             value = sym (ap (λ (x : Turn). x.answer) f);
             records =
-                ap (λ (r : Record). set rs (p - 1) r) (c.from.ensures ∙ ap recorded to)
+                ap (λ (r : Record). set rs (p - 1) r) (c.record_of.ensures.value ∙ ap recorded to)
                 ∙ sym (ap (λ (x : Turn). x.records) f);
           }
     ]
