@@ -1,41 +1,88 @@
-//! The lines of a run: each is made as text and laid into a caller's buffer of at least 24 bytes.
+//! The lines of a run: each is made from its end and laid into a caller's buffer of at least 24 bytes.
 
-ghost use Rattle.std.specs.Prelude.{◌≡◌, ◌+◌, ◌≤◌, ◌++◌, length, take, IfOk, decimal};
-ghost use Rattle.arrayvec.specs.ArrayString.{array_string_len};
+ghost use Rattle.std.specs.Prelude.{◌≡◌, ◌+◌, ◌≤◌, [], ◌++◌, length, take, IfOk, decimal};
+ghost use Rattle.order.specs.Bytes.{overlaid};
 ghost use Rattle.order.specs.Lines.{answer_word, bad_line, line_length, line_written, refusal_words, reply_line, roomy_bad, roomy_line, shown_number};
 
 use crate::fault::Fault;
-use arrayvec::ArrayString;
-use itoa::Buffer;
+use itoa::write_digits;
 use law::call::Call;
 use places::answer::Answer;
 use refusal::Refusal;
+use std::marker::Model;
 
-// A line; none has more than 24 bytes. Its parts are pushed, since `write!` does not promise to succeed where there is
-// room.
-type Line = ArrayString<24>;
+// A line, from `start` to the end of its bytes. It is made from its end, since the digits of a number come last first.
+#[derive(Drop)]
+struct Line {
+    bytes: [u8; 24],
+    start: usize,
+}
 
-// One more number, in decimal digits.
-fn push_number(line: &mut Line, n: u16)
-    requires { array_string_len line.old + 5 ≤ 24 }
-    ensures bytes { line.new.bytes ≡ line.old.bytes ++ decimal n }
-    ensures short { array_string_len line.new ≤ array_string_len line.old + 5 }
-{
-    line.push_str(Buffer::new().format(n));
+impl Model for Line {
+    ghost use Rattle.std.specs.Prelude.{ℕ, ◌≤◌, List, drop};
+
+    ghost Value = { List ℕ };
+
+    ghost view = { λ l. drop l.start l.bytes };
+
+    ghost invariant = { λ l. l.start ≤ 24 };
+}
+
+impl Line {
+    fn new() -> Line
+        ensures { result ≡ [] }
+    {
+        Line {
+            bytes: [0; 24],
+            start: 24,
+        }
+    }
+
+    // Text before what stands.
+    fn put(&mut self, text: &[u8])
+        requires { length text.now + length self.old ≤ 24 }
+        ensures { self.new ≡ text.now ++ self.old }
+    {
+        let start = self.start - text.len();
+        self.bytes[start..self.start].copy_from_slice(text);
+        self.start = start;
+    }
+
+    // A number before what stands, in decimal digits.
+    fn put_number(&mut self, n: u16)
+        requires { 5 + length self.old ≤ 24 }
+        ensures text { self.new ≡ decimal n ++ self.old }
+        ensures short { length self.new ≤ 5 + length self.old }
+    {
+        self.start = write_digits(n.into(), &mut self.bytes, self.start);
+    }
+
+    // Lays the line over the front of a buffer, and answers its length.
+    fn lay(&self, out: &mut [u8]) -> usize
+        requires { 24 ≤ length out.old }
+        ensures value { result ≡ length self.now }
+        ensures buffer { out.new ≡ overlaid self.now out.old }
+        ensures short { result ≤ length out.new }
+        ensures line { take result out.new ≡ self.now }
+    {
+        let text = &self.bytes[self.start..];
+        out[..text.len()].copy_from_slice(text);
+        text.len()
+    }
 }
 
 // The end of a line that tells an answer.
-fn text_of(answer: Answer) -> &'static str
+fn text_of(answer: Answer) -> &'static [u8]
     ensures value { result.now ≡ answer_word answer }
     ensures short { length result.now ≤ 9 }
 {
     match answer {
-        Answer::Asked => " asked\n",
-        Answer::Leaving => " leaving\n",
-        Answer::Entered => " entered\n",
-        Answer::Free => " free\n",
-        Answer::Waiting => " waiting\n",
-        Answer::Moved => " moved\n",
+        Answer::Asked => b" asked\n",
+        Answer::Leaving => b" leaving\n",
+        Answer::Entered => b" entered\n",
+        Answer::Free => b" free\n",
+        Answer::Waiting => b" waiting\n",
+        Answer::Moved => b" moved\n",
     }
 }
 
@@ -44,59 +91,6 @@ fn number_of(refusal: Refusal) -> u16
     ensures { result ≡ shown_number refusal }
 {
     refusal.number().unwrap_or(0).into()
-}
-
-// The end of a line that tells a refusal.
-fn push_refusal(line: &mut Line, refusal: Refusal)
-    requires { array_string_len line.old + 15 ≤ 24 }
-    ensures { line.new.bytes ≡ line.old.bytes ++ refusal_words refusal }
-{
-    line.push_str(" refused ");
-    push_number(line, number_of(refusal));
-    line.push('\n');
-}
-
-// A call and what it answered.
-fn reply_text(call: Call, reply: Result<Answer, Refusal>) -> Line
-    ensures { result.bytes ≡ reply_line call reply }
-{
-    let mut line = Line::new();
-    line.push(call.letter());
-    line.push(' ');
-    push_number(&mut line, call.rank());
-    match reply {
-        Ok(answer) => line.push_str(text_of(answer)),
-        Err(refusal) => push_refusal(&mut line, refusal),
-    }
-    line
-}
-
-// What is wrong with an order, and where.
-fn bad_text(refusal: Refusal, offset: u16) -> Line
-    ensures { result.bytes ≡ bad_line (record { refusal = refusal; offset = offset }) }
-{
-    let mut line = Line::new();
-    line.push_str("bad ");
-    push_number(&mut line, number_of(refusal));
-    line.push_str(" at ");
-    push_number(&mut line, offset);
-    line.push('\n');
-    line
-}
-
-// Lays a line over the front of a buffer, and answers its length.
-fn lay(line: &Line, out: &mut [u8]) -> Result<usize, Refusal>
-    ensures value { result ≡ line_length (roomy_line out.old) line.now.bytes }
-    ensures buffer { out.new ≡ line_written (roomy_line out.old) line.now.bytes out.old }
-    ensures short { IfOk result (λ n. n ≤ length out.new) }
-    ensures line { IfOk result (λ n. take n out.new ≡ line.now.bytes) }
-{
-    if out.len() < 24 {
-        return Err(Refusal::BufferTooSmall);
-    }
-    let text = line.as_str().as_bytes();
-    out[..text.len()].copy_from_slice(text);
-    Ok(text.len())
 }
 
 /// The line of a call and what it answered: letter, rank and answer, or `refused` and the number.
@@ -112,7 +106,21 @@ pub fn write_reply(
     ensures short { IfOk result (λ n. n ≤ length out.new) }
     ensures line { IfOk result (λ n. take n out.new ≡ reply_line call reply) }
 {
-    lay(&reply_text(call, reply), out)
+    if out.len() < 24 {
+        return Err(Refusal::BufferTooSmall);
+    }
+    let mut line = Line::new();
+    match reply {
+        Ok(answer) => line.put(text_of(answer)),
+        Err(refusal) => {
+            line.put(b"\n");
+            line.put_number(number_of(refusal));
+            line.put(b" refused ");
+        }
+    }
+    line.put_number(call.rank());
+    line.put(&[call.letter() as u8, b' ']);
+    Ok(line.lay(out))
 }
 
 /// The line of a bad order. Answers the line's length; a buffer of fewer than 24 bytes, and an offset that no
@@ -124,6 +132,14 @@ pub fn write_bad(fault: Fault, out: &mut [u8]) -> Result<usize, Refusal>
     ensures short { IfOk result (λ n. n ≤ length out.new) }
     ensures line { IfOk result (λ n. take n out.new ≡ bad_line fault) }
 {
-    let offset = u16::try_from(fault.offset).map_err(|_| Refusal::BufferTooSmall)?;
-    lay(&bad_text(fault.refusal, offset), out)
+    if out.len() < 24 || fault.offset > 65535 {
+        return Err(Refusal::BufferTooSmall);
+    }
+    let mut line = Line::new();
+    line.put(b"\n");
+    line.put_number(fault.offset as u16);
+    line.put(b" at ");
+    line.put_number(number_of(fault.refusal));
+    line.put(b"bad ");
+    Ok(line.lay(out))
 }
