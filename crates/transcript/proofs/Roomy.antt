@@ -60,7 +60,7 @@ module _ (bs window : List ℕ) (rs : List Record) (out : List Reply)
   pub lines_told : (text : List ℕ) → transcript bs window rs out ≡ Ok text → text ≡ lines_of bs
   lines_told text e = ap lines_in (sym e ∙ blank_transcript)
 
-  never_refused : (e : Refusal) → transcript bs window rs out ≡ Err e → ⊥
+  pub never_refused : (e : Refusal) → transcript bs window rs out ≡ Err e → ⊥
   never_refused e r =
       let no : Ok (lines_of bs) ≡ Err e = sym blank_transcript ∙ r in
       cc

@@ -1,12 +1,12 @@
 -- An order whose job was run: its lines are the defined ones, and the law holds of it.
-use Rattle.std.proofs.Common.{◌≡◌, ℕ, Bool, true, false, cond, ◌&&◌, List, ◌++◌, length, drop, Some, None, Ok, Err, Option, Result, sym, refl, ap, ◌∙◌, subst, ap₂, arith}
+use Rattle.std.proofs.Common.{◌≡◌, ℕ, suc, ◌+◌, ◌≤◌, Bool, true, false, cond, ◌&&◌, List, [], ◌∷◌, ◌++◌, length, drop, Some, None, Ok, Err, Option, Result, sym, refl, ap, ◌∙◌, subst, ap₂, arith, length-append}
 use Rattle.refusal.specs.declared.Refusal.{Refusal}
 use Rattle.memory.specs.Layout.{byte_words}
 use Rattle.memory.specs.Words.{Words}
 use Rattle.plan.specs.Trees.{Tree}
 use Rattle.places.specs.declared.answer.Answer.{Answer}
 use Rattle.places.specs.declared.record.Record.{Record}
-use Rattle.law.specs.Calls.{answers, laid}
+use Rattle.law.specs.Calls.{State, after, answers, laid}
 use Rattle.law.specs.Law.{Law}
 use Rattle.law.specs.declared.call.Call.{Call}
 use Rattle.job.specs.Outcomes.{answers_fit, job_answer, job_answers}
@@ -27,6 +27,11 @@ both_true true true e f h = refl
 both_true true false e f h = absurd (grind arith)
 both_true false b e f h = absurd (grind arith)
 
+-- one answer for each call
+length_answers : (t : Tree) (s : State) (cs : List Call) → length (answers t s cs) ≡ length cs
+length_answers t s [] = refl
+length_answers t s (c ∷ cs) = ap (λ n. suc n) (length_answers t (after t s c) cs)
+
 -- the fault behind the calls has an offset that an order can have
 pub near_end : (bs : List ℕ) (w : Whole) (o : Option Fault) → read_whole bs ≡ Ok w → w.script.fault ≡ o → NearEnd o
 near_end bs w None e f = tt
@@ -39,6 +44,15 @@ module _ (t : Tree) (ws : Words) (rs : List Record) (cs : List Call) (out table 
   table_is =
       is ∙ ap (λ b. cond b (answers t (laid t ws rs) cs ++ drop (length cs) out) out)
       (both_true _ (answers_fit cs out) _ _ ok)
+
+  -- so the table is no shorter than the calls
+  pub table_fits : length cs ≤ length table
+  table_fits =
+      let n : length table ≡ length (answers t (laid t ws rs) cs) + length (drop (length cs) out) =
+      ap length table_is ∙ length-append (answers t (laid t ws rs) cs) (drop (length cs) out)
+      in
+      let m = length_answers t (laid t ws rs) cs in
+      omega (arith, n, m)
 
   pub table_lines : reply_lines cs table ≡ reply_lines cs (answers t (laid t ws rs) cs)
   table_lines = ap (reply_lines cs) table_is ∙ lines_front t (laid t ws rs) cs (drop (length cs) out)
@@ -53,6 +67,9 @@ module _ (bs window : List ℕ) (rs : List Record) (out table : List Reply) (w :
   table_here : table ≡ job_answers w.plan ws rs cs out
       → table ≡ job_answers w.plan (byte_words window) rs w.script.calls out
   table_here is = is ∙ ap₂ (λ (x : Words) (y : List Call). job_answers w.plan x rs y out) words calls
+
+  pub fits_here : table ≡ job_answers w.plan ws rs cs out → length w.script.calls ≤ length table
+  fits_here is = table_fits w.plan (byte_words window) rs w.script.calls out table accepted_here (table_here is)
 
   pub lines_here : (text : List ℕ) → table ≡ job_answers w.plan ws rs cs out
       → text ≡ reply_lines w.script.calls table ++ fault_line w.script.fault
