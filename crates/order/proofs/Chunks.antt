@@ -1,6 +1,6 @@
 -- The bytes from a place on, made one by one.
-use Rattle.std.proofs.Common.{◌≡◌, ℕ, zero, suc, ◌+◌, ◌-◌, ◌<◌, ◌≤◌, List, [], ◌∷◌, length, get_or, drop, None, Some, Option, sym, refl, ap, ap₂, ◌∙◌, subst, ⊎_elim, add-zero, zero-add, arith, length-drop}
-use Rattle.std.proofs.lemmas.List.{drop_all, take_all, get_or-drop}
+use Rattle.std.proofs.Common.{◌≡◌, ℕ, zero, suc, ◌+◌, ◌-◌, ◌<◌, ◌≤◌, List, [], ◌∷◌, length, get_or, drop, None, Some, Option, sym, refl, ap, ap₂, ◌∙◌, subst, ⊎_elim, add-zero, zero-add, arith, length-drop, length-take-le, take}
+use Rattle.std.proofs.lemmas.List.{drop_all, take_all, get_or-drop, get_or-take}
 use Rattle.std.specs.Array.{IsFromFnResult, IsFromFnResultFrom}
 use Rattle.std.specs.Fn.{Called}
 use Rattle.std.specs.List.{PartBy}
@@ -21,6 +21,12 @@ listed (y ∷ ys) bs at (suc n) l each =
     (listed ys bs (at + 1) n (omega arith) (λ k h.
     let e : at + suc k ≡ at + 1 + k = omega arith in
     rw e at (each (suc k) (omega arith))))
+
+-- the front of what is left from a place on, where that is long enough
+pub bytes_taken : (rest bs : List ℕ) (at n : ℕ) → rest ≡ drop at bs → n ≤ length rest → take n rest ≡ bytes_from bs at n
+bytes_taken rest bs at n e h =
+    listed (take n rest) bs at n (length-take-le n rest h) (λ k l.
+    get_or-take n rest k 0 l ∙ ap (λ xs. get_or xs k 0) e ∙ get_or-drop at bs k 0)
 
 -- what is left of a list from a place on, if anything
 pub rest_is : (bs : List ℕ) (at : ℕ) (r : Option (Bor (List ℕ))) (none : Bor (List ℕ)) → none.now ≡ []

@@ -10,10 +10,13 @@ pub(crate) fn byte_at(order: &[u8], at: usize) -> u8
     order.get(at).copied().unwrap_or(0)
 }
 
-// N bytes, from a place on: the format gives each number its place.
+// N bytes, from a place on: the format gives each number its place. If the order has them all, they are taken at once.
 pub(crate) fn bytes_at<const N: usize>(order: &[u8], at: usize) -> [u8; N]
     ensures { result ≡ bytes_from order.now at N }
 {
     let rest = order.get(at..).unwrap_or(&[]);
-    std::array::from_fn(|k| byte_at(rest, k))
+    match rest.split_first_chunk() {
+        Some((bytes, _)) => *bytes,
+        None => std::array::from_fn(|k| byte_at(rest, k)),
+    }
 }

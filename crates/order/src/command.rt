@@ -1,6 +1,6 @@
 //! A reader at a command of an order: the letter as a char, the command's length and operand, and whether it is due.
 
-ghost use Rattle.std.specs.Prelude.{◌≡◌, ◌+◌, ◌<◌, length, IfOk};
+ghost use Rattle.std.specs.Prelude.{◌≡◌, ◌+◌, ◌<◌, length, nat_le, IfOk};
 ghost use Rattle.order.specs.Bytes.{pair_at};
 ghost use Rattle.order.specs.Commands.{checked, letter_at, size};
 
@@ -21,20 +21,28 @@ fn length_of(letter: char) -> usize
 }
 
 /// An order, and the offset of the command that is read next.
-#[derive(Drop)]
+#[derive(Clone, Copy)]
 pub(crate) struct Reader<'a> {
     pub(crate) order: &'a [u8],
     pub(crate) at: usize,
 }
 
 impl Reader<'_> {
+    // The order ends neither before a command with this letter nor in it.
+    fn is_whole(&self, letter: char) -> bool
+        ensures { result ≡ nat_le (self.now.at + size letter) (length self.now.order.now) }
+    {
+        self.order.len().saturating_sub(self.at) >= length_of(letter)
+    }
+
     // The command's letter, unless the order ends before the command or in it.
     pub(crate) fn letter(&self) -> Result<char, Fault>
         ensures { result ≡ letter_at self.now.order.now self.now.at }
     {
-        let letter = byte_at(self.order, self.at) as char;
-        if self.order.len().saturating_sub(self.at) < length_of(letter) {
-            return Err(Fault::new(Refusal::Cut, self.at));
+        let cut = Fault::new(Refusal::Cut, self.at);
+        let letter = *self.order.get(self.at).ok_or(cut)? as char;
+        if !self.is_whole(letter) {
+            return Err(cut);
         }
         Ok(letter)
     }
@@ -52,10 +60,12 @@ impl Reader<'_> {
         ensures value { result ≡ checked self.now.order.now self.now.at due }
         ensures within { IfOk result (λ _. self.now.at < length self.now.order.now) }
     {
-        if self.letter()? != due {
-            return Err(Fault::new(Refusal::Misplaced, self.at));
+        // the usual case first: of the due command no other letter's length is asked for
+        if byte_at(self.order, self.at) as char == due && self.is_whole(due) {
+            return Ok(());
         }
-        Ok(())
+        self.letter()?;
+        Err(Fault::new(Refusal::Misplaced, self.at))
     }
 }
 

@@ -56,12 +56,15 @@ fn read_operands(
     ensures order { reader.new.order.now ≡ reader.old.order.now }
 {
     let mut list = Vec::new(heap);
+    // a copy: in the lent reader, the place would be stored and loaded again at each command
+    let mut own = *reader;
     for _ in 0..count {
-        reader.check(letter)?;
-        list.push(reader.operand())
-            .map_err(|_| Fault::new(Refusal::OutOfMemory, reader.at))?;
-        reader.at += 3;
+        own.check(letter)?;
+        list.push(own.operand())
+            .map_err(|_| Fault::new(Refusal::OutOfMemory, own.at))?;
+        own.at += 3;
     }
+    *reader = own;
     Ok(list)
 }
 

@@ -16,5 +16,5 @@ returns-clause-value c =
     let go = rw (c.read_operands-2.ensures.order, same, ranks.2) at c.in_ok-check.ensures.value in
     let made : Ok t ≡ planned (tree s ps es) = search rules in
     reading_by bs s c.saturating_sub.result ps es t c.read_shape-shape.ensures c.saturating_sub.ensures parents.1 ranks.1
-    c.if-order-gt-LONGEST_ORDER.false (sym c.in_ok-check_command.ensures) parents.0 ranks.0 (sym go) made
+    (omega arith) (sym c.in_ok-check_command.ensures) parents.0 ranks.0 (sym go) made
     ∙ ap (λ (x : ℕ). Ok (record { plan = t; end = x })) (omega (arith, ranks.2))
