@@ -1,4 +1,4 @@
--- The bytes from a place on, made one by one.
+-- The bytes from a place on: made one by one, or taken at once.
 use Rattle.std.proofs.Common.{◌≡◌, ℕ, zero, suc, ◌+◌, ◌-◌, ◌<◌, ◌≤◌, List, [], ◌∷◌, length, get_or, drop, None, Some, Option, sym, refl, ap, ap₂, ◌∙◌, subst, ⊎_elim, add-zero, zero-add, arith, length-drop, length-take-le, take}
 use Rattle.std.proofs.lemmas.List.{drop_all, take_all, get_or-drop, get_or-take}
 use Rattle.std.specs.Array.{IsFromFnResult, IsFromFnResultFrom}

@@ -60,7 +60,7 @@ impl Reader<'_> {
         ensures value { result ≡ checked self.now.order.now self.now.at due }
         ensures within { IfOk result (λ _. self.now.at < length self.now.order.now) }
     {
-        // the usual case first: of the due command no other letter's length is asked for
+        // the usual case first: the due command is there, and no other letter's length is asked for
         if byte_at(self.order, self.at) as char == due && self.is_whole(due) {
             return Ok(());
         }
